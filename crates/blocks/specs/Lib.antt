@@ -1,0 +1,4 @@
+pub mod Choose
+pub mod Bounded
+pub mod Block
+pub mod Area

@@ -1,0 +1,41 @@
+-- Document 01, kind 2: undo pairs, "two bytes each, an action and its undo action".
+use mathlib.Core.Bool.{Bool, true, false, not}
+use mathlib.Core.List.{List}
+use mathlib.Core.Path.{_≡_}
+use Prim.Native.Nat.{ℕ, _+_, _*_, _/_, _<_}
+use lib.Dec.{ltb, eqb}
+use lib.ListN.{length, getD}
+use Rattle.blocks.specs.Choose.{pick}
+use Rattle.blocks.specs.Bounded.{every}
+
+abbrev pub pairCount : List ℕ → ℕ
+pairCount b = length b / 2
+
+-- the action of pair i, and its undo action
+abbrev pub first : List ℕ → ℕ → ℕ
+first b i = getD b (2 * i) 0
+
+abbrev pub second : List ℕ → ℕ → ℕ
+second b i = getD b (2 * i + 1) 0
+
+-- what the body may hold, for a plan of so many actions
+pub record Pairs (actions : ℕ) (b : List ℕ) : Type 0 where
+  -- the numbers are actions of the plan
+  pub numbers : (i : ℕ) → i < pairCount b → (first b i < actions) × (second b i < actions)
+  -- "No action is first in two pairs."
+  pub once : (i j : ℕ) → i < pairCount b → j < pairCount b → first b i ≡ first b j → i ≡ j
+  -- "No action is first in one pair and second in any pair."
+  pub apart : (i j : ℕ) → i < pairCount b → j < pairCount b → first b i ≡ second b j → ⊥
+
+-- the test of it: pair i against pair j
+abbrev pub apartOk : ℕ → ℕ → ℕ → ℕ → ℕ → Bool
+apartOk i fi j fj sj = pick (eqb fi sj) false (pick (eqb i j) true (not (eqb fi fj)))
+
+abbrev pub pairOk : ℕ → List ℕ → ℕ → Bool
+pairOk actions b i =
+    pick (ltb (first b i) actions)
+    (pick (ltb (second b i) actions) (every (pairCount b) (λ j. apartOk i (first b i) j (first b j) (second b j))) false)
+    false
+
+abbrev pub pairsOk : ℕ → List ℕ → Bool
+pairsOk actions b = every (pairCount b) (λ i. pairOk actions b i)
