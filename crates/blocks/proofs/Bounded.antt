@@ -102,3 +102,18 @@ module _ (g : ℕ → ℕ) where
           let (i, l, m) = rest (omega arith) in
           (i, omega arith, m)
       go rest false e = let k = eqb-false (g n) 0 e in (n, omega arith, omega arith)
+
+  total-none : (n : ℕ) → ((i : ℕ) → i < n → g i ≡ 0) → total n g ≡ 0
+  unfolding total
+  total-none zero h = refl
+  total-none (suc n) h = omega (arith, h n (omega arith), total-none n (λ i l. h i (omega arith)))
+
+  -- a sum with one term that is not 0
+  pub total-single : (n k : ℕ) → k < n → ((i : ℕ) → i < n → (i ≡ k → ⊥) → g i ≡ 0) → total n g ≡ g k
+  unfolding total
+  total-single zero k l h = absurd (not-suc-le-zero l)
+  total-single (suc n) k l h = go (λ m. total-single n k m (λ i j d. h i (omega arith) d)) (last n k l)
+    where
+      go : (k < n → total n g ≡ g k) → (k ≡ n) ⊎ (k < n) → g n + total n g ≡ g k
+      go rest (inl e) = rw e (omega (arith, total-none n (λ i j. h i (omega arith) (λ z. omega arith))))
+      go rest (inr m) = omega (arith, rest m, h n (omega arith) (λ z. omega arith))

@@ -5,3 +5,6 @@ pub mod TypesPairs
 pub mod Forms
 pub mod Lengths
 pub mod Lying
+pub mod Named
+pub mod Under
+pub mod Postfix
