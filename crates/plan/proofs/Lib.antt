@@ -8,3 +8,6 @@ pub mod Lying
 pub mod Named
 pub mod Under
 pub mod Postfix
+pub mod Accepted
+pub mod Blocks
+pub mod Exactly

@@ -5,3 +5,4 @@ pub mod Fold
 pub mod NodeTests
 pub mod Rule
 pub mod Reading
+pub mod PlanFile
