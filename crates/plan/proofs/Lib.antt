@@ -11,3 +11,4 @@ pub mod Postfix
 pub mod Accepted
 pub mod Blocks
 pub mod Exactly
+pub mod Prefix
