@@ -1,2 +1,4 @@
 pub mod Process
 pub mod Figure2
+pub mod Cells
+pub mod Beginnings
