@@ -3,7 +3,7 @@ use mathlib.Core.Path.{_≡_, refl, sym, _∙_, ap}
 use mathlib.Core.Bool.{Bool, true, false}
 use mathlib.Core.Logic.{_⊎_, inl, inr}
 use Prim.Native.Nat.{ℕ, zero, suc, _+_, _-_, _*_, _/_, _%_, _^_, _<_, max}
-use native.Mathlib.Nat.{one-mul, zero-div, div-eq-of-lt, pow-suc, mul-mod-left}
+use native.Mathlib.Nat.{one-mul, mod-eq-of-lt, zero-div, div-eq-of-lt, pow-suc, mul-mod-left}
 use native.Mathlib.Omega.{arith}
 use lib.Dec.{eqb, ltb}
 use lib.Pow.{pow-lt, pow-add, shl-shr}
@@ -49,6 +49,10 @@ module _ (n : ℕ) where
 -- The set of one leaf.
 pub only-holds : (n : ℕ) → Holds (only n) n
 only-holds n = ap (λ (x : ℕ). x / 2 ^ n % 2) (sym (one-mul (2 ^ n))) ∙ ap (λ (x : ℕ). x % 2) (shl-shr 1 n)
+
+-- As the code makes it.
+pub one-leaf : (n : ℕ) → n < 64 → 1 * 2 ^ n % 2 ^ 64 ≡ only n
+one-leaf n h = rw one-mul (mod-eq-of-lt (pow-lt h))
 
 above : (n d : ℕ) → 2 ^ (suc d + n) / 2 ^ n % 2 ≡ 0
 above n d = ap (λ (x : ℕ). x / 2 ^ n % 2) (pow-add 2 (suc d) n) ∙ ap (λ (x : ℕ). x % 2) (shl-shr (2 ^ suc d) n ∙ pow-suc 2 d) ∙ mul-mod-left (2 ^ d) 2

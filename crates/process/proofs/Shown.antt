@@ -204,7 +204,7 @@ module _ (n : ℕ) (s : Status) where
   pub next-iff : (k : ℕ) (T : Marked) (a : Levels) → ShowsAll a T → Within k (unmarked T) → Holds (wholeNext k a) n ↔ Goes whole T
   next-iff k T a S g = next-all k T a S (inr g)
 
-  left-next-iff : (k : ℕ) (f : Form) (T : Marked) (a : Levels) → ShowsAll a T → Within k (unmarked T) → Holds (leftNext k f a) n ↔ Goes (leftMode f) T
+  left-next-iff : (k : ℕ) (f : Form) (T : Marked) (a : Levels) → ShowsAll a T → Within k (unmarked T) → Holds (leftNext f (a zero .next) (wholeNext k a)) n ↔ Goes (leftMode f) T
   left-next-iff k sequence T a S g = S zero .same-next
   left-next-iff k parallel T a S g = S zero .same-next
   left-next-iff k choice T a S g = S zero .same-next
@@ -234,6 +234,6 @@ module _ (n : ℕ) (s : Status) where
       let A = markedBy table P in
       let w : Within k (unmarked A) = rw (unmarked-by table P) (g .0) in
       let a = levelsOf k table P in
-      shows-node f (isFailed (wholeEnded k a)) (leftNext k f a) (S zero) (shows k table Q (right-deeper f k Q (g .1)) (p .1) zero) (left-next-iff k f A a S w)
+      shows-node f (isFailed (wholeEnded k a)) (leftNext f (a zero .next) (wholeNext k a)) (S zero) (shows k table Q (right-deeper f k Q (g .1)) (p .1) zero) (left-next-iff k f A a S w)
       (right-iff f (S zero) (λ e. ended-iff k A a S w fail .0 (of-failed (wholeEnded k a) e), λ x. ap isFailed (ended-iff k A a S w fail .1 x)))
   shows k table (node f P Q) g p (suc i) = shows-undo f (markedBy table P) (markedBy table Q) (levelsOf k table P) (levelsOf k table Q) (shows k table P (g .0) (p .0)) (shows k table Q (right-deeper f k Q (g .1)) (p .1)) i

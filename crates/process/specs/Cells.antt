@@ -128,7 +128,7 @@ rightMay choice x x-begun x-over = not x-begun
 rightMay compensation x x-begun x-over = false
 rightMay handler x x-begun x-over = x-over
 
--- A composite of the cells x and y. `x-next`: what may come next in its left side, which for a handler runs with its undo.
+-- A composite of the cells x and y. `x-next`: what may come next in its left side.
 abbrev pub nodeCell : Form → Cell → Cell → ℕ → Bool → Cell
 nodeCell f x y x-next x-over = record {
   empty = false;
@@ -166,12 +166,13 @@ abbrev pub wholeNext : ℕ → Levels → ℕ
 wholeNext zero a = a zero .next
 wholeNext (suc depth) a = bitOr (given (not (a (suc zero) .begun)) (a zero .next)) (given (isFailed (a zero .ended)) (wholeNext depth (undoLevels a)))
 
-abbrev pub leftNext : ℕ → Form → Levels → ℕ
-leftNext depth sequence a = a zero .next
-leftNext depth parallel a = a zero .next
-leftNext depth choice a = a zero .next
-leftNext depth compensation a = a zero .next
-leftNext depth handler a = wholeNext depth a
+-- What may come next in a left side: in a handler's, which runs with its undo, by the whole of it.
+abbrev pub leftNext : Form → ℕ → ℕ → ℕ
+leftNext sequence x-next x-whole = x-next
+leftNext parallel x-next x-whole = x-next
+leftNext choice x-next x-whole = x-next
+leftNext compensation x-next x-whole = x-next
+leftNext handler x-next x-whole = x-whole
 
 -- x, then y, at level i of an undo: the undo of a sequence runs in the other order, its undo's undo in the first order again.
 abbrev pub inTurn : ℕ → Cell → Cell → Cell
@@ -187,7 +188,7 @@ nodeUndo compensation a b i = pick (isSucceeded (a zero .ended)) (b i) (undoLeve
 nodeUndo handler a b i = pick (isSucceeded (a zero .ended)) (undoLevels a i) (undoLevels b i)
 
 abbrev pub nodeLevels : ℕ → Form → Levels → Levels → Levels
-nodeLevels depth f a b zero = nodeCell f (a zero) (b zero) (leftNext depth f a) (isFailed (wholeEnded depth a))
+nodeLevels depth f a b zero = nodeCell f (a zero) (b zero) (leftNext f (a zero .next) (wholeNext depth a)) (isFailed (wholeEnded depth a))
 nodeLevels depth f a b (suc i) = nodeUndo f a b i
 
 -- The levels of a leaf: its own, and no undo.
