@@ -8,3 +8,5 @@ pub mod Leaves
 pub mod Shown
 pub mod Counts
 pub mod Beginnings
+pub mod TwoLevels
+pub mod Examples

@@ -1,15 +1,15 @@
 -- The cells of the code: level 0, and level 1 for the undo, which is what the plans of a plan file need (none has a compensation in an
 -- undo side). Each definition is that of Cells at these two levels.
 use mathlib.Core.Path.{_≡_}
-use Prim.Native.Nat.{ℕ, zero, suc}
+use Prim.Native.Nat.{ℕ, zero, suc, _<_}
 use lib.Dec.{eqb, ltb}
-use Rattle.process.specs.Process.{Form, sequence, parallel, choice, compensation, handler, Process}
+use Rattle.process.specs.Process.{Kind, Form, sequence, parallel, choice, compensation, handler, Process, leaf, node, Run}
 use Rattle.process.specs.declared.cells.Ended.{Ended}
 use Rattle.process.specs.declared.cells.Cells.{Cells}
 use Rattle.process.specs.declared.cells.Told.{Told}
 use Rattle.process.specs.declared.cells.Composite.{Composite}
 use Rattle.process.specs.declared.cells.Composite.the-variants.{Sequence, Parallel, Choice, Compensation, Handler}
-use Rattle.process.specs.Cells.{pick, Outcomes, emptyCell, Levels, wholeEnded, wholeNext, nodeLevels, leafLevels, levelsOf}
+use Rattle.process.specs.Cells.{pick, Outcomes, noneRun, outcomesAfter, emptyCell, Levels, wholeEnded, wholeNext, nodeLevels, leafLevels, levelsOf, toldEnded, toldNext}
 
 abbrev pub levels : Cells → Levels
 levels a zero = a .forward
@@ -52,3 +52,9 @@ toldTwo a = record { ended = wholeEnded 1 (levels a); next = wholeNext 1 (levels
 -- The cells of a process.
 abbrev pub cellsOf : Outcomes → Process → Cells
 cellsOf table P = two (levelsOf 1 table P)
+
+-- From the leaves up, the code's cells of a process are those of the definition, and what is told at the root is what Beginnings speaks of.
+pub record TwoLevelsFold : Type 0 where
+  pub at-leaf : (table : Outcomes) (n : ℕ) (k : Kind) → n < 64 → leafTwo n (table n) ≡ cellsOf table (leaf n k)
+  pub at-node : (table : Outcomes) (number : ℕ) (P Q : Process) → nodeTwo number (cellsOf table P) (cellsOf table Q) ≡ cellsOf table (node (numberForm number) P Q)
+  pub at-root : (w : Run) (P : Process) → toldTwo (cellsOf (outcomesAfter noneRun w) P) ≡ record { ended = toldEnded 1 P w; next = toldNext 1 P w }

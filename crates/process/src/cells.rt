@@ -40,6 +40,9 @@ pub enum Composite {
     Handler,
 }
 
+// A parallel of which one side has failed and the other has not begun: it may end so.
+const ONE_SIDE: Ended = Ended::Failed;
+
 fn given(test: bool, leaves: u64) -> u64
     ensures { λ r. ⌜ r ≡ given test leaves ⌝ }
 {
