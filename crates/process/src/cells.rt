@@ -74,7 +74,7 @@ fn node_ended(form: Composite, x: Ended, x_begun: bool, y: Ended, y_begun: bool)
             Ended::Open => match y {
                 Ended::Open => Ended::Open,
                 Ended::Succeeded => Ended::Open,
-                Ended::Failed => { if x_begun { Ended::Open } else { Ended::Failed } }
+                Ended::Failed => { if x_begun { Ended::Open } else { ONE_SIDE } }
             },
             Ended::Succeeded => match y {
                 Ended::Open => Ended::Open,
@@ -82,7 +82,7 @@ fn node_ended(form: Composite, x: Ended, x_begun: bool, y: Ended, y_begun: bool)
                 Ended::Failed => Ended::Failed,
             },
             Ended::Failed => match y {
-                Ended::Open => { if y_begun { Ended::Open } else { Ended::Failed } }
+                Ended::Open => { if y_begun { Ended::Open } else { ONE_SIDE } }
                 Ended::Succeeded => Ended::Failed,
                 Ended::Failed => Ended::Failed,
             },
@@ -177,7 +177,7 @@ fn then_undo(x: Ended, undone: Ended) -> Ended
         Ended::Failed => match undone {
             Ended::Open => Ended::Open,
             Ended::Succeeded => Ended::Failed,
-            Ended::Failed => Ended::Failed,
+            Ended::Failed => Ended::Failed, // an undo that has failed has ended too
         },
     }
 }
@@ -218,24 +218,13 @@ fn node_undo(form: Composite, a: Cells, b: Cells) -> Cell
     let right = b.forward;
     let right_undo = b.undo;
     let ended = left.ended;
+    let succeeded = is_succeeded(ended);
     match form {
         Composite::Sequence => join_cell(Composite::Sequence, right_undo, left_undo),
         Composite::Parallel => join_cell(Composite::Parallel, left_undo, right_undo),
         Composite::Choice => join_cell(Composite::Sequence, right_undo, left_undo),
-        Composite::Compensation => {
-            if is_succeeded(ended) {
-                right
-            } else {
-                left_undo
-            }
-        }
-        Composite::Handler => {
-            if is_succeeded(ended) {
-                left_undo
-            } else {
-                right_undo
-            }
-        }
+        Composite::Compensation => { if succeeded { right } else { left_undo } }
+        Composite::Handler => { if succeeded { left_undo } else { right_undo } }
     }
 }
 
