@@ -1,0 +1,12 @@
+pub mod Marked
+pub mod Undo
+pub mod Alike
+pub mod Reached
+pub mod Whole
+pub mod Forms
+pub mod Leaves
+pub mod Shown
+pub mod Counts
+pub mod Beginnings
+pub mod TwoLevels
+pub mod Examples

@@ -1,0 +1,60 @@
+-- The cells of the code: level 0, and level 1 for the undo, which is what the plans of a plan file need (none has a compensation in an
+-- undo side). Each definition is that of Cells at these two levels.
+use mathlib.Core.Path.{_≡_}
+use Prim.Native.Nat.{ℕ, zero, suc, _<_}
+use lib.Dec.{eqb, ltb}
+use Rattle.process.specs.Process.{Kind, Form, sequence, parallel, choice, compensation, handler, Process, leaf, node, Run}
+use Rattle.process.specs.declared.cells.Ended.{Ended}
+use Rattle.process.specs.declared.cells.Cells.{Cells}
+use Rattle.process.specs.declared.cells.Told.{Told}
+use Rattle.process.specs.declared.cells.Composite.{Composite}
+use Rattle.process.specs.declared.cells.Composite.the-variants.{Sequence, Parallel, Choice, Compensation, Handler}
+use Rattle.process.specs.Cells.{pick, Outcomes, noneRun, outcomesAfter, emptyCell, Levels, wholeEnded, wholeNext, nodeLevels, leafLevels, levelsOf, toldEnded, toldNext}
+
+abbrev pub levels : Cells → Levels
+levels a zero = a .forward
+levels a (suc zero) = a .undo
+levels a (suc (suc i)) = emptyCell
+
+abbrev pub two : Levels → Cells
+two a = record { forward = a zero; undo = a (suc zero) }
+
+abbrev pub nothing : Cells
+nothing = record { forward = emptyCell; undo = emptyCell }
+
+abbrev pub formOf : Composite → Form
+formOf Sequence = sequence
+formOf Parallel = parallel
+formOf Choice = choice
+formOf Compensation = compensation
+formOf Handler = handler
+
+-- Document 01's forms by their numbers, 3 to 7. Any other number is taken for a handler's.
+abbrev pub numberForm : ℕ → Form
+numberForm number = pick (eqb number 3) sequence (pick (eqb number 4) parallel (pick (eqb number 5) choice (pick (eqb number 6) compensation handler)))
+
+-- A leaf, by its node number. A number that is no bit of 64 gives nothing to run.
+abbrev pub leafTwo : ℕ → Ended → Cells
+leafTwo n outcome = pick (ltb n 64) (two (leafLevels n outcome)) nothing
+
+-- A composite, by the form.
+abbrev pub formTwo : Form → Cells → Cells → Cells
+formTwo f a b = two (nodeLevels 1 f (levels a) (levels b))
+
+-- By the form's number.
+abbrev pub nodeTwo : ℕ → Cells → Cells → Cells
+nodeTwo number a b = formTwo (numberForm number) a b
+
+-- What is told at the root.
+abbrev pub toldTwo : Cells → Told
+toldTwo a = record { ended = wholeEnded 1 (levels a); next = wholeNext 1 (levels a) }
+
+-- The cells of a process.
+abbrev pub cellsOf : Outcomes → Process → Cells
+cellsOf table P = two (levelsOf 1 table P)
+
+-- From the leaves up, the code's cells of a process are those of the definition, and what is told at the root is what Beginnings speaks of.
+pub record TwoLevelsFold : Type 0 where
+  pub at-leaf : (table : Outcomes) (n : ℕ) (k : Kind) → n < 64 → leafTwo n (table n) ≡ cellsOf table (leaf n k)
+  pub at-node : (table : Outcomes) (number : ℕ) (P Q : Process) → nodeTwo number (cellsOf table P) (cellsOf table Q) ≡ cellsOf table (node (numberForm number) P Q)
+  pub at-root : (w : Run) (P : Process) → toldTwo (cellsOf (outcomesAfter noneRun w) P) ≡ record { ended = toldEnded 1 P w; next = toldNext 1 P w }
