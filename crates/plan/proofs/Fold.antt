@@ -15,6 +15,21 @@ use Rattle.blocks.specs.Choose.{pick}
 use Rattle.plan.specs.Nodes.{count, form, left, right, Descending}
 use Rattle.plan.specs.Fold.{foldFrom, foldAt}
 
+-- Induction over the nodes: what holds of a leaf, and of a composite where it holds of its parts, holds of every node.
+pub node-ind : (b : List ℕ) → Descending b → (Q : ℕ → Type 0) → ((i : ℕ) → i < count b → form b i < 3 → Q i)
+    → ((i : ℕ) → i < count b → 3 ≤ form b i → Q (left b i) → Q (right b i) → Q i) → (i : ℕ) → i < count b → Q i
+node-ind b down Q on-leaf on-node i h = go (suc i) i (omega arith) h
+  where
+    pick-case : (k i : ℕ) → i < count b → ((j : ℕ) → j < i → j < count b → Q j) → (t : Bool) → ltb (form b i) 3 ≡ t → Q i
+    pick-case k i c below true e = on-leaf i c (ltb-true _ _ e)
+    pick-case k i c below false e =
+        let f = ltb-false (form b i) 3 e in
+        let (l, r) = down i c f in
+        on-node i c f (below (left b i) l (omega arith)) (below (right b i) r (omega arith))
+    go : (k i : ℕ) → i < k → i < count b → Q i
+    go zero i l c = absurd (not-suc-le-zero l)
+    go (suc k) i l c = pick-case k i c (λ j m d. go k j (omega arith) d) (ltb (form b i) 3) refl
+
 module _ {A : Type 0} (leaf : ℕ → A) (node : ℕ → A → A → A) (b : List ℕ) where
   pub fold-leaf : (i : ℕ) → form b i < 3 → foldAt leaf node b i ≡ leaf i
   unfolding foldFrom

@@ -12,3 +12,6 @@ pub mod Accepted
 pub mod Blocks
 pub mod Exactly
 pub mod Prefix
+pub mod Numbers
+pub mod Tree
+pub mod Demand1

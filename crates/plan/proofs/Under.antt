@@ -14,7 +14,7 @@ use Rattle.blocks.specs.Choose.{pick}
 use Rattle.blocks.proofs.Bounded.{decide, every-at, every-all}
 use Rattle.plan.specs.Nodes.{count, form, left, right, Side, on-left, on-right, child, Names, NamedOnce, EachNamedOnce, Under, itself, named, NotNested, Descending}
 use Rattle.plan.specs.NodeTests.{holding, noCompensation, holds, undoOk, nestedOk}
-use Rattle.plan.proofs.Fold.{fold-leaf, fold-node}
+use Rattle.plan.proofs.Fold.{node-ind, fold-leaf, fold-node}
 
 left-not-right : on-left ≡ on-right → ⊥
 left-not-right e = let z : _≡_ {A = ℕ} 0 1 = cc in omega arith
@@ -103,43 +103,43 @@ module _ (b : List ℕ) where
     held-below : (i : ℕ) (s : Side) → i < count b → 3 ≤ form b i → Held (child b i s) → Held i
     held-below i s l c h = record { at = h .at; under = through {s = s} (record { present = l; composite = c; is = refl }) (h .under); present = h .present; is = h .is }
 
-    holds-held : (k i : ℕ) → i < k → i < count b → holds b i ≡ true → Held i
-    holds-held zero i l c h = absurd (not-suc-le-zero l)
-    holds-held (suc k) i l c h = go (holds-held k) (decide (ltb (form b i) 3))
+    holds-held : (i : ℕ) → i < count b → holds b i ≡ true → Held i
+    holds-held = node-ind b down (λ i. holds b i ≡ true → Held i)
+        (λ i c f h. absurd (true≢false (sym h ∙ fold-leaf noCompensation (λ n. holding (form b n)) b i f)))
+        (λ i c f l r h. split i c f l r h (decide (eqb (form b i) 6)) (decide (holds b (left b i))) (decide (holds b (right b i))))
       where
-        go : ((m : ℕ) → m < k → m < count b → holds b m ≡ true → Held m) → (ltb (form b i) 3 ≡ true) ⊎ (ltb (form b i) 3 ≡ false) → Held i
-        go below (inl e) = absurd (true≢false (sym h ∙ fold-leaf noCompensation (λ n. holding (form b n)) b i (ltb-true _ _ e)))
-        go below (inr e) =
-            let f = ltb-false (form b i) 3 e in
-            let (x, y) = down i c f in
-            split f (below (left b i) (omega arith) (omega arith)) (below (right b i) (omega arith) (omega arith)) (decide (eqb (form b i) 6)) (decide (holds b (left b i))) (decide (holds b (right b i)))
-          where
-            split : 3 ≤ form b i → (holds b (left b i) ≡ true → Held (left b i)) → (holds b (right b i) ≡ true → Held (right b i))
-                → (eqb (form b i) 6 ≡ true) ⊎ (eqb (form b i) 6 ≡ false)
-                → (holds b (left b i) ≡ true) ⊎ (holds b (left b i) ≡ false)
-                → (holds b (right b i) ≡ true) ⊎ (holds b (right b i) ≡ false)
-                → Held i
-            split f bl br (inl q) hl hr = record { at = i; under = itself; present = c; is = eqb-true _ _ q }
-            split f bl br (inr q) (inl hl) hr = held-below i on-left c f (bl hl)
-            split f bl br (inr q) (inr hl) (inl hr) = held-below i on-right c f (br hr)
-            split f bl br (inr q) (inr hl) (inr hr) = absurd (true≢false (sym h ∙ holds-node i c f ∙ simp (q, hl, hr)))
+        split : (i : ℕ) → i < count b → 3 ≤ form b i → (holds b (left b i) ≡ true → Held (left b i)) → (holds b (right b i) ≡ true → Held (right b i)) → holds b i ≡ true
+            → (eqb (form b i) 6 ≡ true) ⊎ (eqb (form b i) 6 ≡ false)
+            → (holds b (left b i) ≡ true) ⊎ (holds b (left b i) ≡ false)
+            → (holds b (right b i) ≡ true) ⊎ (holds b (right b i) ≡ false)
+            → Held i
+        split i c f l r h (inl q) x y = record { at = i; under = itself; present = c; is = eqb-true _ _ q }
+        split i c f l r h (inr q) (inl x) y = held-below i on-left c f (l x)
+        split i c f l r h (inr q) (inr x) (inl y) = held-below i on-right c f (r y)
+        split i c f l r h (inr q) (inr x) (inr y) = absurd (true≢false (sym h ∙ holds-node i c f ∙ simp (q, x, y)))
 
-    held-holds : (k i : ℕ) → i < k → i < count b → Held i → holds b i ≡ true
-    held-holds zero i l c h = absurd (not-suc-le-zero l)
-    held-holds (suc k) i l c h = go (held-holds k) (first (h .under))
+    -- what is held stands at the node, or below one of its parts
+    held-first : (i : ℕ) → Held i → (form b i ≡ 6) ⊎ ((s : Side) × (3 ≤ form b i) × Held (child b i s))
+    held-first i h = go (first (h .under))
       where
-        on-side : (s : Side) → holds b (child b i s) ≡ true → holding (form b i) (holds b (left b i)) (holds b (right b i)) ≡ true
-        on-side on-left e = rw e (holding-some (form b i) true (holds b (right b i)) (inl refl))
-        on-side on-right e = holding-some (form b i) (holds b (left b i)) (holds b (right b i)) (inr e)
+        go : (i ≡ h .at) ⊎ ((s : Side) × (c : ℕ) × Names b i s c × Under b c (h .at)) → (form b i ≡ 6) ⊎ ((s : Side) × (3 ≤ form b i) × Held (child b i s))
+        go (inl e) = inl (ap (form b) e ∙ h .is)
+        go (inr (s, c, n, u)) = inr (s, n .composite, record { at = h .at; under = rw (n .is) u; present = h .present; is = h .is })
 
-        go : ((m : ℕ) → m < k → m < count b → Held m → holds b m ≡ true) → (i ≡ h .at) ⊎ ((s : Side) × (m : ℕ) × Names b i s m × Under b m (h .at)) → holds b i ≡ true
-        go below (inl e) =
-            let f : form b i ≡ 6 = ap (form b) e ∙ h .is in
-            holds-node i c (omega arith) ∙ simp (eq-eqb (form b i) 6 f)
-        go below (inr (s, m, n, u)) =
-            let k = smaller n in
-            let e = below m (omega arith) (omega arith) (record { at = h .at; under = u; present = h .present; is = h .is }) in
-            holds-node i c (n .composite) ∙ on-side s (rw (n .is) e)
+    held-holds : (i : ℕ) → i < count b → Held i → holds b i ≡ true
+    held-holds = node-ind b down (λ i. Held i → holds b i ≡ true)
+        (λ i c f h. on-leaf i f (held-first i h))
+        (λ i c f l r h. holds-node i c f ∙ on-node i l r (held-first i h))
+      where
+        on-leaf : (i : ℕ) → form b i < 3 → (form b i ≡ 6) ⊎ ((s : Side) × (3 ≤ form b i) × Held (child b i s)) → holds b i ≡ true
+        on-leaf i f (inl e) = absurd (omega arith)
+        on-leaf i f (inr (s, k, h)) = absurd (omega arith)
+        on-node : (i : ℕ) → (Held (left b i) → holds b (left b i) ≡ true) → (Held (right b i) → holds b (right b i) ≡ true)
+            → (form b i ≡ 6) ⊎ ((s : Side) × (3 ≤ form b i) × Held (child b i s))
+            → holding (form b i) (holds b (left b i)) (holds b (right b i)) ≡ true
+        on-node i l r (inl e) = simp (eq-eqb (form b i) 6 e)
+        on-node i l r (inr (on-left, k, h)) = holding-some (form b i) (holds b (left b i)) (holds b (right b i)) (inl (l h))
+        on-node i l r (inr (on-right, k, h)) = holding-some (form b i) (holds b (left b i)) (holds b (right b i)) (inr (r h))
 
     test : ℕ → Bool
     test i = undoOk (form b i) (holds b (right b i))
@@ -151,7 +151,7 @@ module _ (b : List ℕ) where
         to : undoOk (form b i) (holds b (right b i)) ≡ true → form b i ≡ 6 → Held (right b i) → ⊥
         to h e k =
             let r = down i l (omega arith) .1 in
-            let q = held-holds (suc (right b i)) (right b i) (omega arith) (omega arith) k in
+            let q = held-holds (right b i) (omega arith) k in
             true≢false (sym h ∙ simp (eq-eqb (form b i) 6 e, q))
 
         from : (form b i ≡ 6 → Held (right b i) → ⊥) → (eqb (form b i) 6 ≡ true) ⊎ (eqb (form b i) 6 ≡ false) → undoOk (form b i) (holds b (right b i)) ≡ true
@@ -163,7 +163,7 @@ module _ (b : List ℕ) where
             go (inl q) =
                 let f = eqb-true (form b i) 6 e in
                 let r = down i l (omega arith) .1 in
-                absurd (h f (holds-held (suc (right b i)) (right b i) (omega arith) (omega arith) q))
+                absurd (h f (holds-held (right b i) (omega arith) q))
 
     pub nested-say : (nestedOk b ≡ true) ↔ NotNested b
     unfolding test

@@ -6,3 +6,5 @@ pub mod NodeTests
 pub mod Rule
 pub mod Reading
 pub mod PlanFile
+pub mod Tree
+pub mod Demand1

@@ -1,0 +1,44 @@
+-- Demand 1 for plan files: what the reader's answer says of every list of bytes. `demand1` in proofs/ proves it, and the contract of
+-- `read` equates its result with `readOf`.
+use mathlib.Core.Path.{_≡_}
+use mathlib.Core.List.{List}
+use mathlib.Core.Logic.{_↔_}
+use Prim.Native.Nat.{ℕ, _+_, _-_, _≤_, _<_}
+use lib.ListN.{length, take}
+use Rattle.process.specs.Beginnings.{AsWritten, HasLeaf, Distinct, undoDepth}
+use Rattle.plan.specs.Nodes.{count, form, Under}
+use Rattle.plan.specs.PlanFile.{Bytes, PlanFile}
+use Rattle.plan.specs.Reading.{bytesOf, endOf, readOf}
+use Rattle.plan.specs.Tree.{processOf}
+use Rattle.plan.specs.declared.Layout.{Layout}
+use Rattle.plan.specs.declared.Reading.the-variants.{Accepted, Refused}
+
+-- where the four bodies of an accepted file lie: one after the other, each after its heading, up to the file's end
+pub record InARow (s : List ℕ) (l : Layout) : Type 0 where
+  pub types : l .types .at ≡ 4
+  pub pairs : l .pairs .at ≡ endOf (l .types) + 4
+  pub nodes : l .nodes .at ≡ endOf (l .pairs) + 4
+  pub rule : l .rule .at ≡ endOf (l .nodes) + 4
+  pub end : endOf (l .rule) ≡ length s
+
+-- the process of a node list: every node is in the tree of the last one, its leaves are the nodes of forms 0 to 2, each once, and no
+-- compensation stands in an undo side
+pub record Drawn (types nodes : List ℕ) : Type 0 where
+  pub whole : (j : ℕ) → j < count nodes → Under nodes (count nodes - 1) j
+  pub leaves : (n : ℕ) → HasLeaf n (processOf types nodes) ↔ ((n < count nodes) × (form nodes n < 3))
+  pub written : AsWritten (processOf types nodes)
+  pub distinct : Distinct (processOf types nodes)
+  pub flat : undoDepth (processOf types nodes) ≤ 1
+
+pub record Demand1 : Type 0 where
+  -- a file is accepted exactly where it is a plan file
+  pub accepts : (s : List ℕ) → Bytes s → ((l : Layout) × (readOf s ≡ Accepted l)) ↔ PlanFile 10 9 s
+  -- every other one is refused, by one of the numbers 1 to 9
+  pub refuses : (s : List ℕ) (n : ℕ) → readOf s ≡ Refused n → (1 ≤ n) × (n ≤ 9)
+  -- an accepted file has at most 360 bytes, and its bodies lie in a row
+  pub most : (s : List ℕ) (l : Layout) → readOf s ≡ Accepted l → length s ≤ 360
+  pub row : (s : List ℕ) (l : Layout) → readOf s ≡ Accepted l → InARow s l
+  -- its nodes draw one tree
+  pub tree : (s : List ℕ) (l : Layout) → readOf s ≡ Accepted l → Drawn (bytesOf s (l .types)) (bytesOf s (l .nodes))
+  -- of a longer input the beginning decides
+  pub beginning : (s : List ℕ) (n : ℕ) → 360 < n → n ≤ length s → readOf (take n s) ≡ readOf s
