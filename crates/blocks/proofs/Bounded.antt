@@ -1,6 +1,6 @@
 -- The laws of `every` and `total`: what a loop over the numbers below a bound shows of them turn by turn, and what they say of each
 -- number. All by induction on the bound.
-use mathlib.Core.Path.{_≡_, refl, sym, ap, _∙_}
+use mathlib.Core.Path.{_≡_, refl, sym, _∙_}
 use mathlib.Core.Bool.{Bool, true, false, true≢false}
 use mathlib.Core.Logic.{_⊎_, inl, inr}
 use Prim.Native.Nat.{ℕ, zero, suc, _+_, _≤_, _<_}

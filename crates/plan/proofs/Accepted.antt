@@ -1,6 +1,6 @@
 -- What an accepted file is: where its four bodies lie, one after the other, and that each passed its checks. The way back from the
 -- reader's answer, and the way there.
-use mathlib.Core.Path.{_≡_, refl, sym, ap, subst, _∙_}
+use mathlib.Core.Path.{_≡_, refl, subst}
 use mathlib.Core.Bool.{Bool, true, false}
 use mathlib.Core.List.{List}
 use Prim.Native.Nat.{ℕ, _+_, _*_, _≤_}
@@ -10,7 +10,7 @@ use lib.ListN.{length}
 use borrow.Author.Tests.{eqb-true, eq-eqb}
 use Rattle.blocks.specs.Choose.{pick}
 use Rattle.blocks.specs.declared.Part.{Part}
-use Rattle.plan.specs.Reading.{endOf, blockAt, onBlock, withRule, withNodes, withPairs, withTypes, readWithin, readOf}
+use Rattle.plan.specs.Reading.{endOf, blockAt, onBlock, withRule, withNodes, withPairs, withTypes, readWithin}
 use Rattle.plan.specs.declared.Block.{Block}
 use Rattle.plan.specs.declared.Block.the-variants as block
 use Rattle.plan.specs.declared.Layout.{Layout}

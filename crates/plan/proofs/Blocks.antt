@@ -1,14 +1,13 @@
 -- A block that lies in a file is a block written into it, and the other way round.
-use mathlib.Core.Path.{_≡_, refl, sym, ap, subst, _∙_}
-use mathlib.Core.Bool.{Bool, true, false}
-use mathlib.Core.List.{List, [], _∷_, _++_, append-assoc}
+use mathlib.Core.Path.{_≡_, refl, sym, _∙_}
+use mathlib.Core.Bool.{true}
+use mathlib.Core.List.{List, _∷_, _++_}
 use Prim.Native.Nat.{ℕ, suc, _+_, _*_, _/_, _%_, _≤_, _<_}
 use native.Mathlib.Nat.{add-zero, add-assoc}
-use native.Mathlib.Numerals.{add-one}
 use native.Mathlib.Omega.{arith}
-use lib.ListN.{length, take, drop, getD, length-append, length-take, length-drop, take-append-drop}
+use lib.ListN.{length, drop, getD, length-append, length-take, length-drop, take-append-drop}
 use lib.Seq.{drop-cons, drop-drop, drop-append-add, getD-append-add, take-append-seam}
-use Rattle.blocks.specs.Block.{le16, two, block}
+use Rattle.blocks.specs.Block.{block}
 use Rattle.blocks.specs.declared.Part.{Part}
 use Rattle.plan.specs.PlanFile.{Bytes}
 use Rattle.plan.specs.Reading.{lengthOk, fault, bytesOf, endOf}

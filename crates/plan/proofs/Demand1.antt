@@ -4,11 +4,10 @@ use mathlib.Core.List.{List}
 use Prim.Native.Nat.{ℕ}
 use native.Mathlib.Omega.{arith}
 use lib.ListN.{length, length-take, length-drop}
-use Rattle.plan.specs.Nodes.{count}
-use Rattle.plan.specs.Reading.{bytesOf, endOf, readOf}
+use Rattle.plan.specs.Reading.{bytesOf, readOf}
 use Rattle.plan.specs.Demand1.{InARow, Drawn, Demand1}
 use Rattle.plan.specs.declared.Layout.{Layout}
-use Rattle.plan.specs.declared.Reading.the-variants.{Accepted, Refused}
+use Rattle.plan.specs.declared.Reading.the-variants.{Accepted}
 use Rattle.plan.proofs.Lengths.{sized-nodes}
 use Rattle.plan.proofs.Accepted.{Bodies, accepted-bodies, most-bytes}
 use Rattle.plan.proofs.Exactly.{nodes-say, accepted-exactly}
@@ -37,4 +36,5 @@ demand1 = record {
   most = λ s l h. most-bytes 10 9 s l (bodies s l h);
   row = λ s l h. in-a-row s l (bodies s l h);
   tree = λ s l h. tree s l (bodies s l h);
-  beginning = λ s n h k. beginning-decides 10 9 s n k (omega arith) }
+  beginning = λ s n h k. beginning-decides 10 9 s n k (omega arith);
+}

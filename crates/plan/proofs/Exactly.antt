@@ -1,25 +1,24 @@
 -- Demand 1, said without a reader: a list of bytes is accepted exactly where it is a plan file. Each check that passed is the statement
 -- that it tests, and each statement passes its check.
-use mathlib.Core.Path.{_≡_, refl, sym, ap, subst, _∙_}
+use mathlib.Core.Path.{_≡_, refl, sym, ap, _∙_}
 use mathlib.Core.Bool.{Bool, true, false}
-use mathlib.Core.List.{List, [], _∷_, _++_, append-assoc, append-nil}
+use mathlib.Core.List.{List, [], _++_, append-assoc, append-nil}
 use mathlib.Core.Logic.{_↔_}
-use Prim.Native.Nat.{ℕ, _+_, _*_, _/_, _%_, _≤_, _<_}
+use Prim.Native.Nat.{ℕ, _+_, _*_, _/_, _%_, _≤_}
 use native.Mathlib.Omega.{arith}
-use lib.ListN.{length, take, drop, getD, length-append}
+use lib.ListN.{length, drop, length-append}
 use lib.Seq.{drop-length}
 use lib.Dec.{leb}
 use borrow.Author.Tests.{le-leb, eq-eqb}
 use Rattle.blocks.specs.Choose.{pick}
 use Rattle.blocks.specs.Block.{block}
-use Rattle.blocks.specs.declared.Part.{Part}
-use Rattle.plan.specs.Types.{Types, typesOk}
-use Rattle.plan.specs.Pairs.{Pairs, pairsOk}
+use Rattle.plan.specs.Types.{typesOk}
+use Rattle.plan.specs.Pairs.{pairsOk}
 use Rattle.plan.specs.Nodes.{FormRules, EachNamedOnce, NotNested}
 use Rattle.plan.specs.NodeTests.{formsOk, namedOk, nestedOk, nodesFault}
-use Rattle.plan.specs.Rule.{Rule, ruleOk}
+use Rattle.plan.specs.Rule.{ruleOk}
 use Rattle.plan.specs.PlanFile.{Bytes, Items, PlanFile}
-use Rattle.plan.specs.Reading.{lengthOk, fault, bytesOf, endOf, readWithin}
+use Rattle.plan.specs.Reading.{lengthOk, bytesOf, endOf, readWithin}
 use Rattle.plan.specs.declared.Layout.{Layout}
 use Rattle.plan.specs.declared.Reading.the-variants.{Accepted}
 use Rattle.plan.proofs.TypesPairs.{types-say, pairs-say}
@@ -27,10 +26,9 @@ use Rattle.plan.proofs.Forms.{forms-say, descending}
 use Rattle.plan.proofs.Named.{named-say}
 use Rattle.plan.proofs.Under.{nested-say}
 use Rattle.plan.proofs.Postfix.{rule-say}
-use Rattle.plan.proofs.Lengths.{Sized, sized-types, sized-pairs, sized-nodes, sized-rule}
-use Rattle.plan.proofs.Lying.{Lying}
+use Rattle.plan.proofs.Lengths.{sized-types, sized-pairs, sized-nodes, sized-rule}
 use Rattle.plan.proofs.Accepted.{Bodies, accepted-bodies, bodies-accepted}
-use Rattle.plan.proofs.Blocks.{body-length, block-here, block-lies, block-end, place}
+use Rattle.plan.proofs.Blocks.{body-length, block-here, block-lies}
 
 -- a number that stands for a fault stands for none only where the test holds
 none : (t : Bool) (n : ℕ) → pick t 0 (n + 1) ≡ 0 → t ≡ true

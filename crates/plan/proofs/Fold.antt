@@ -1,7 +1,7 @@
 -- The law of a fold over a node list, once for every algebra: where parts have smaller numbers, the value of a composite is made of its
 -- parts' values (`fold-node`), a table that is filled in the order of the nodes holds the fold of each (`table-more`), and a map between
 -- two algebras takes one fold to the other (`fold-map`). By induction on the fuel.
-use mathlib.Core.Path.{_≡_, refl, sym, ap, ap₂, _∙_}
+use mathlib.Core.Path.{_≡_, refl, sym, ap₂, _∙_}
 use mathlib.Core.Bool.{Bool, true, false}
 use mathlib.Core.List.{List}
 use Prim.Native.Nat.{ℕ, zero, suc, _+_, _≤_, _<_}
@@ -26,6 +26,7 @@ node-ind b down Q on-leaf on-node i h = go (suc i) i (omega arith) h
         let f = ltb-false (form b i) 3 e in
         let (l, r) = down i c f in
         on-node i c f (below (left b i) l (omega arith)) (below (right b i) r (omega arith))
+
     go : (k i : ℕ) → i < k → i < count b → Q i
     go zero i l c = absurd (not-suc-le-zero l)
     go (suc k) i l c = pick-case k i c (λ j m d. go k j (omega arith) d) (ltb (form b i) 3) refl

@@ -8,10 +8,10 @@ use lib.Dec.{leb, eqb}
 use lib.ListN.{length, take, drop}
 use borrow.Author.Tests.{leb-true, le-leb, eqb-true, eq-eqb}
 use Rattle.blocks.specs.Choose.{pick}
-use Rattle.blocks.specs.Block.{le16, headingAt, bodyFits}
+use Rattle.blocks.specs.Block.{le16, bodyFits}
 use Rattle.blocks.specs.declared.Part.{Part}
 use Rattle.blocks.specs.declared.Heading.the-variants.{Whole, Cut}
-use Rattle.plan.specs.Reading.{lengthOk, fault, bytesOf, endOf, judged, bodyAt, onHeading, blockAt}
+use Rattle.plan.specs.Reading.{lengthOk, fault, bytesOf, endOf, bodyAt, onHeading, blockAt}
 use Rattle.plan.specs.declared.Block.{Block}
 use Rattle.plan.specs.declared.Block.the-variants.{Lies, Refused}
 

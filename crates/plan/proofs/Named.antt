@@ -1,5 +1,5 @@
 -- The count of a node's namings is 1 exactly where one node names it on one side: check 7 says what document 01 does.
-use mathlib.Core.Path.{_≡_, refl, sym, ap, _∙_}
+use mathlib.Core.Path.{_≡_, refl, sym, _∙_}
 use mathlib.Core.Bool.{Bool, true, false}
 use mathlib.Core.List.{List}
 use mathlib.Core.Logic.{_↔_, _⊎_, inl, inr}
@@ -7,8 +7,6 @@ use Prim.Native.Nat.{ℕ, _+_, _-_, _≤_, _<_}
 use native.Mathlib.Omega.{arith}
 use lib.Dec.{leb, eqb}
 use borrow.Author.Tests.{leb-true, leb-false, le-leb, lt-leb, eqb-true, eqb-false, eq-eqb, ne-eqb}
-use Rattle.blocks.specs.Choose.{pick}
-use Rattle.blocks.specs.Bounded.{total}
 use Rattle.blocks.proofs.Bounded.{decide, every-at, every-all, total-has, total-two, total-some, total-single}
 use Rattle.plan.specs.Nodes.{count, form, left, right, Side, on-left, on-right, child, Names, NamedOnce, EachNamedOnce}
 use Rattle.plan.specs.NodeTests.{one, naming, timesNamed, namedOk}

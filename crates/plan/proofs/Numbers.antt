@@ -4,7 +4,7 @@ use mathlib.Core.Bool.{Bool, true, false}
 use mathlib.Core.List.{List}
 use Prim.Native.Nat.{ℕ, _+_, _≤_}
 use native.Mathlib.Omega.{arith}
-use lib.Dec.{leb, eqb}
+use lib.Dec.{eqb}
 use lib.ListN.{length, take, drop}
 use borrow.Author.Tests.{eqb-false}
 use Rattle.blocks.specs.Choose.{pick}
@@ -19,7 +19,6 @@ use Rattle.plan.specs.Rule.{ruleOk}
 use Rattle.plan.specs.Reading.{lengthOk, fault, endOf, judged, bodyAt, onHeading, blockAt, onBlock, withRule, withNodes, withPairs, withTypes, readWithin}
 use Rattle.plan.specs.declared.Block.{Block}
 use Rattle.plan.specs.declared.Block.the-variants as block
-use Rattle.plan.specs.declared.Layout.{Layout}
 use Rattle.plan.specs.declared.Reading.{Reading}
 use Rattle.plan.specs.declared.Reading.the-variants as reading
 
@@ -65,6 +64,7 @@ block-number s at kind most actions = go (headingAt s at)
         either-way BlockNumber (lengthOk kind most n)
         (either-way BlockNumber (bodyFits s at n) (judged-number (fault kind actions (take n (drop (at + 4) s))) _ (fault-number kind actions (take n (drop (at + 4) s)))) (omega arith, omega arith))
         (omega arith, omega arith)
+
     go : (h : Heading) → BlockNumber (onHeading h (λ k n. pick (eqb k kind) (bodyAt s at kind most actions n) (block.Refused 2)))
     go (Whole k n) = either-way BlockNumber (eqb k kind) (body n) (omega arith, omega arith)
     go Cut = (omega arith, omega arith)
@@ -76,10 +76,10 @@ next-number (block.Refused n) next h k = h
 reading-number : (actionLimit pairLimit : ℕ) (s : List ℕ) → ReadingNumber (readWithin actionLimit pairLimit s)
 reading-number actionLimit pairLimit s =
     next-number (blockAt s 0 1 actionLimit 0) (withTypes pairLimit s) (block-number s 0 1 actionLimit 0) (λ t.
-      next-number (blockAt s (endOf t) 2 pairLimit (t .len)) (withPairs s t) (block-number s (endOf t) 2 pairLimit (t .len)) (λ p.
-        next-number (blockAt s (endOf p) 3 63 (t .len)) (withNodes s t p) (block-number s (endOf p) 3 63 (t .len)) (λ n.
-          next-number (blockAt s (endOf n) 4 127 (t .len)) (withRule s t p n) (block-number s (endOf n) 4 127 (t .len)) (λ r.
-            either-way ReadingNumber (eqb (endOf r) (length s)) tt (omega arith, omega arith)))))
+    next-number (blockAt s (endOf t) 2 pairLimit (t .len)) (withPairs s t) (block-number s (endOf t) 2 pairLimit (t .len)) (λ p.
+    next-number (blockAt s (endOf p) 3 63 (t .len)) (withNodes s t p) (block-number s (endOf p) 3 63 (t .len)) (λ n.
+    next-number (blockAt s (endOf n) 4 127 (t .len)) (withRule s t p n) (block-number s (endOf n) 4 127 (t .len)) (λ r.
+    either-way ReadingNumber (eqb (endOf r) (length s)) tt (omega arith, omega arith)))))
 
 pub refusal-number : (actionLimit pairLimit : ℕ) (s : List ℕ) (n : ℕ) → readWithin actionLimit pairLimit s ≡ reading.Refused n → (1 ≤ n) × (n ≤ 9)
 refusal-number actionLimit pairLimit s n h = rw h at (reading-number actionLimit pairLimit s)

@@ -1,14 +1,13 @@
 -- The test of a rule holds exactly where the bytes are one part in postfix order. From parts: a part adds one value to those before it.
 -- To parts: the values at any place are as many parts, one after the other.
 use mathlib.Core.Path.{_≡_, refl, sym, ap, subst, _∙_}
-use mathlib.Core.Bool.{Bool, true, false, true≢false}
+use mathlib.Core.Bool.{true, false}
 use mathlib.Core.List.{List, [], _∷_, _++_, append-assoc, append-nil}
 use mathlib.Core.Logic.{_↔_, _⊎_, inl, inr}
 use Prim.Native.Nat.{ℕ, zero, suc, _+_, _-_, _≤_, _<_}
 use native.Mathlib.Omega.{arith}
-use lib.Dec.{ltb, leb, eqb}
-use borrow.Author.Tests.{ltb-true, ltb-false, lt-ltb, le-ltb, leb-true, le-leb, eqb-true, eqb-false, eq-eqb}
-use Rattle.blocks.specs.Choose.{pick}
+use lib.Dec.{ltb, eqb}
+use borrow.Author.Tests.{ltb-true, lt-ltb, le-ltb, leb-true, le-leb, eqb-true}
 use Rattle.blocks.proofs.Bounded.{decide, both-true}
 use Rattle.plan.specs.Rule.{Rule, action, not, and, or, operands, ruleFrom, ruleOk}
 

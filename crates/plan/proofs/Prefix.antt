@@ -1,27 +1,27 @@
 -- A longer input than any plan file is refused by the number of its beginning: no check that decides looks past the bytes that the
 -- permitted lengths add up to. Block by block, each check says of the beginning what it says of the whole.
-use mathlib.Core.Path.{_≡_, refl, sym, ap, _∙_}
-use mathlib.Core.Bool.{Bool, true, false}
+use mathlib.Core.Path.{_≡_, refl}
+use mathlib.Core.Bool.{true, false}
 use mathlib.Core.List.{List}
 use mathlib.Core.Logic.{_⊎_, inl, inr}
 use Prim.Native.Nat.{ℕ, _+_, _*_, _≤_, _<_}
 use native.Mathlib.Omega.{arith}
-use lib.Dec.{leb, eqb}
-use lib.ListN.{length, take, drop, getD, length-take, length-drop}
+use lib.Dec.{eqb}
+use lib.ListN.{length, take, drop, length-take, length-drop}
 use lib.Seq.{getD-take, getD-drop, ext-getD, length-take-le}
 use borrow.Author.Tests.{le-leb, ne-eqb}
 use Rattle.blocks.specs.Choose.{pick}
-use Rattle.blocks.specs.Block.{le16, headingAt, bodyFits}
+use Rattle.blocks.specs.Block.{headingAt}
 use Rattle.blocks.specs.declared.Part.{Part}
 use Rattle.blocks.specs.declared.Heading.{Heading}
 use Rattle.blocks.specs.declared.Heading.the-variants.{Whole, Cut}
 use Rattle.blocks.proofs.Bounded.{decide}
-use Rattle.plan.specs.Reading.{lengthOk, fault, judged, bodyAt, onHeading, blockAt, onBlock, endOf, withRule, withNodes, withPairs, withTypes, readWithin}
+use Rattle.plan.specs.Reading.{lengthOk, bodyAt, onHeading, blockAt, onBlock, endOf, withRule, withNodes, withPairs, withTypes, readWithin}
 use Rattle.plan.specs.declared.Block.{Block}
 use Rattle.plan.specs.declared.Block.the-variants.{Lies, Refused}
 use Rattle.plan.specs.declared.Reading.{Reading}
 use Rattle.plan.proofs.Lengths.{sized-types, sized-pairs, sized-nodes, sized-rule}
-use Rattle.plan.proofs.Lying.{Lying, lying}
+use Rattle.plan.proofs.Lying.{lying}
 
 module _ (s : List ℕ) (n : ℕ) (long : n ≤ length s) where
   beginning-long : length (take n s) ≡ n

@@ -1,6 +1,6 @@
 -- What one turn of a loop over a body does to the tests that are no plain `every`: the count of a node's namings, and the values of a
 -- rule.
-use mathlib.Core.Path.{_≡_, refl, ap}
+use mathlib.Core.Path.{_≡_}
 use mathlib.Core.Bool.{Bool, true, false}
 use mathlib.Core.List.{List}
 use Prim.Native.Nat.{ℕ, _+_, _-_, _≤_, _<_}

@@ -3,20 +3,20 @@
 use mathlib.Core.Path.{_≡_, refl, sym, ap, subst, _∙_}
 use mathlib.Core.Bool.{Bool, true, false}
 use mathlib.Core.List.{List}
-use mathlib.Core.Logic.{_↔_, _⊎_, inl, inr}
-use Prim.Native.Nat.{ℕ, suc, _+_, _-_, _≤_, _<_, max}
+use mathlib.Core.Logic.{_⊎_, inl, inr}
+use Prim.Native.Nat.{ℕ, _-_, _≤_, _<_, max}
 use native.Mathlib.Omega.{arith}
 use lib.Dec.{eqb}
-use borrow.Author.Tests.{eqb-true, eqb-false, eq-eqb, ne-eqb}
+use borrow.Author.Tests.{eqb-true, eqb-false}
 use Rattle.blocks.specs.Choose.{pick}
 use Rattle.blocks.proofs.Bounded.{decide}
-use Rattle.process.specs.Process.{Form, sequence, parallel, choice, compensation, handler, Process, leaf, node}
+use Rattle.process.specs.Process.{sequence, parallel, choice, compensation, handler, Process, leaf, node}
 use Rattle.process.specs.Beginnings.{AsWritten, HasLeaf, Apart, Distinct, rightDepth, undoDepth}
-use Rattle.plan.specs.Nodes.{count, form, left, right, Side, on-left, on-right, child, Names, EachNamedOnce, Under, itself, named, NotNested, Descending}
-use Rattle.plan.specs.Tree.{leafKind, formOf, leafOf, compositeOf, processAt, processOf}
+use Rattle.plan.specs.Nodes.{count, form, left, right, Side, on-left, on-right, Names, EachNamedOnce, Under, itself, NotNested, Descending}
+use Rattle.plan.specs.Tree.{leafKind, formOf, leafOf, compositeOf, processAt}
 use Rattle.plan.specs.Demand1.{Drawn}
 use Rattle.plan.proofs.Fold.{node-ind, fold-leaf, fold-node}
-use Rattle.plan.proofs.Under.{through, first, smaller, within, all-under-last, apart}
+use Rattle.plan.proofs.Under.{through, first, all-under-last, apart}
 
 module _ (types b : List ℕ) (down : Descending b) where
   abbrev at : ℕ → Process
@@ -54,8 +54,8 @@ module _ (types b : List ℕ) (down : Descending b) where
   leaf-node : (n i : ℕ) → i < count b → HasLeaf n (at i) → LeafNode i n
   leaf-node n = node-ind b down (λ i. HasLeaf n (at i) → LeafNode i n)
       (λ i c f h.
-        let e : n ≡ i = subst (HasLeaf n) (process-leaf i f) h in
-        rw e (record { under = itself; present = c; plain = f }))
+      let e : n ≡ i = subst (HasLeaf n) (process-leaf i f) h in
+      rw e (record { under = itself; present = c; plain = f }))
       (λ i c f l r h. side i c f l r (subst (HasLeaf n) (process-node i c f) h))
     where
       side : (i : ℕ) → i < count b → 3 ≤ form b i → (HasLeaf n (at (left b i)) → LeafNode (left b i) n) → (HasLeaf n (at (right b i)) → LeafNode (right b i) n)
@@ -71,6 +71,7 @@ module _ (types b : List ℕ) (down : Descending b) where
       itself-leaf : (i : ℕ) → form b i < 3 → (i ≡ n) ⊎ ((s : Side) × (c : ℕ) × Names b i s c × Under b c n) → n ≡ i
       itself-leaf i f (inl e) = sym e
       itself-leaf i f (inr (s, c, m, u)) = absurd (omega (arith, m .composite))
+
       side : (i : ℕ) → 3 ≤ form b i → (LeafNode (left b i) n → HasLeaf n (at (left b i))) → (LeafNode (right b i) n → HasLeaf n (at (right b i))) → LeafNode i n
           → (i ≡ n) ⊎ ((s : Side) × (c : ℕ) × Names b i s c × Under b c n) → HasLeaf n (at (left b i)) ⊎ HasLeaf n (at (right b i))
       side i f l r k (inl e) = absurd (omega (arith, ap (form b) e, k .plain))
@@ -105,9 +106,9 @@ module _ (types b : List ℕ) (down : Descending b) where
   bare-depth = node-ind b down (λ i. Bare i → undoDepth (at i) ≡ 0)
       (λ i c f h. ap undoDepth (process-leaf i f))
       (λ i c f l r h.
-        let on-the-left = l (λ j u. h j (through b (names-left i c f) u)) in
-        let on-the-right = r (λ j u. h j (through b (names-right i c f) u)) in
-        ap undoDepth (process-node i c f) ∙ rw (other-depth (form b i) (undoDepth (at (right b i))) (h i itself c), on-the-left, on-the-right))
+      let on-the-left = l (λ j u. h j (through b (names-left i c f) u)) in
+      let on-the-right = r (λ j u. h j (through b (names-right i c f) u)) in
+      ap undoDepth (process-node i c f) ∙ rw (other-depth (form b i) (undoDepth (at (right b i))) (h i itself c), on-the-left, on-the-right))
 
   module _ (flat : NotNested b) where
     shallow : (i : ℕ) → i < count b → undoDepth (at i) ≤ 1
@@ -115,6 +116,7 @@ module _ (types b : List ℕ) (down : Descending b) where
       where
         most : (x y : ℕ) → x ≤ 1 → y ≤ 1 → max x y ≤ 1
         most x y h k = omega arith
+
         go : (i : ℕ) → i < count b → 3 ≤ form b i → undoDepth (at (left b i)) ≤ 1 → undoDepth (at (right b i)) ≤ 1
             → (eqb (form b i) 6 ≡ true) ⊎ (eqb (form b i) 6 ≡ false)
             → max (undoDepth (at (left b i))) (rightDepth (formOf (form b i)) (undoDepth (at (right b i)))) ≤ 1
@@ -137,4 +139,5 @@ drawn types b some down once flat =
       );
       written = written types b down last top;
       distinct = distinct types b down once last top;
-      flat = shallow types b down flat last top }
+      flat = shallow types b down flat last top;
+    }

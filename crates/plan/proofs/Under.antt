@@ -1,18 +1,17 @@
 -- The tree that a node list draws. Every node is under the last one; the two sides of a composite share no node; and the test of check 8
 -- says what document 01 does of compensations. By going down from a node to its parts, whose numbers are smaller, and up from a node to
 -- the one place that names it.
-use mathlib.Core.Path.{_≡_, refl, sym, ap, subst, _∙_}
+use mathlib.Core.Path.{_≡_, refl, sym, ap, _∙_}
 use mathlib.Core.Bool.{Bool, true, false, not, _||_, true≢false}
 use mathlib.Core.List.{List}
 use mathlib.Core.Logic.{_↔_, _⊎_, inl, inr}
 use Prim.Native.Nat.{ℕ, zero, suc, _+_, _-_, _≤_, _<_}
-use native.Mathlib.Nat.{not-suc-le-zero}
 use native.Mathlib.Omega.{arith}
-use lib.Dec.{ltb, eqb}
-use borrow.Author.Tests.{ltb-true, ltb-false, eqb-true, eqb-false, eq-eqb, not-true}
+use lib.Dec.{eqb}
+use borrow.Author.Tests.{eqb-true, eqb-false, eq-eqb}
 use Rattle.blocks.specs.Choose.{pick}
 use Rattle.blocks.proofs.Bounded.{decide, every-at, every-all}
-use Rattle.plan.specs.Nodes.{count, form, left, right, Side, on-left, on-right, child, Names, NamedOnce, EachNamedOnce, Under, itself, named, NotNested, Descending}
+use Rattle.plan.specs.Nodes.{count, form, left, right, Side, on-left, on-right, child, Names, EachNamedOnce, Under, itself, named, NotNested, Descending}
 use Rattle.plan.specs.NodeTests.{holding, noCompensation, holds, undoOk, nestedOk}
 use Rattle.plan.proofs.Fold.{node-ind, fold-leaf, fold-node}
 
@@ -134,6 +133,7 @@ module _ (b : List ℕ) where
         on-leaf : (i : ℕ) → form b i < 3 → (form b i ≡ 6) ⊎ ((s : Side) × (3 ≤ form b i) × Held (child b i s)) → holds b i ≡ true
         on-leaf i f (inl e) = absurd (omega arith)
         on-leaf i f (inr (s, k, h)) = absurd (omega arith)
+
         on-node : (i : ℕ) → (Held (left b i) → holds b (left b i) ≡ true) → (Held (right b i) → holds b (right b i) ≡ true)
             → (form b i ≡ 6) ⊎ ((s : Side) × (3 ≤ form b i) × Held (child b i s))
             → holding (form b i) (holds b (left b i)) (holds b (right b i)) ≡ true

@@ -6,8 +6,8 @@ use Prim.Native.Nat.{ℕ, _*_, _≤_, _<_}
 use lib.ListN.{length, getD}
 use Rattle.blocks.specs.Block.{block}
 use Rattle.plan.specs.Types.{Types}
-use Rattle.plan.specs.Pairs.{pairCount, Pairs}
-use Rattle.plan.specs.Nodes.{count, FormRules, EachNamedOnce, NotNested}
+use Rattle.plan.specs.Pairs.{Pairs}
+use Rattle.plan.specs.Nodes.{FormRules, EachNamedOnce, NotNested}
 use Rattle.plan.specs.Rule.{Rule}
 
 -- each element is a byte

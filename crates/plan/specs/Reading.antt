@@ -16,7 +16,6 @@ use Rattle.plan.specs.NodeTests.{nodesFault}
 use Rattle.plan.specs.Rule.{ruleOk}
 use Rattle.plan.specs.declared.Block.{Block}
 use Rattle.plan.specs.declared.Block.the-variants as block
-use Rattle.plan.specs.declared.Layout.{Layout}
 use Rattle.plan.specs.declared.Reading.{Reading}
 use Rattle.plan.specs.declared.Reading.the-variants as reading
 

@@ -1,9 +1,7 @@
 -- `plan::read_within` meets its contract: what the block is decides, as the definition goes by it; where its body lies, it lies inside.
 use mathlib.Core.Path.{sym, _∙_}
-use Prim.Native.Nat.{_+_}
 use native.Mathlib.Omega.{arith}
 use borrow.Author.Needs.{needs}
-use Rattle.plan.specs.Reading.{endOf}
 use Rattle.plan.proofs.Lying.{lying}
 use Rattle.plan.proofs.read_within.Statement.{statement}
 use Rattle.plan.proofs.read_within.Tie as tie

@@ -1,6 +1,5 @@
 -- `plan::with_types` meets its contract: what the block is decides, as the definition goes by it; where its body lies, it lies inside.
 use mathlib.Core.Path.{sym, _∙_}
-use Prim.Native.Nat.{_+_}
 use native.Mathlib.Omega.{arith}
 use borrow.Author.Needs.{needs}
 use Rattle.plan.specs.Reading.{endOf}

@@ -11,19 +11,19 @@ wide-requires-2 : tie.Need-wide-requires-2
 wide-requires-2 c κs = search needs
 
 returns : tie.Need-returns
-returns c = simp (eq-eqb _ _ (simp (c .before .wide2 .ensures) at (c .if3 .taken)), eq-eqb _ _ (simp (c .before .before .before .wide .ensures) at (c .before .before .if2 .taken)), le-leb _ _ (c .before .before .before .before .if1 .taken), c .before .wide2 .ensures, c .before .before .before .wide .ensures)
+returns c = simp (eq-eqb _ _ (simp (c .before .wide2 .ensures) at (c .if3 .taken)), eq-eqb _ _ (simp (c .before .before .before .wide .ensures) at (c .before .before .if2 .taken)), le-leb _ _ (c .before .before .before .before .if1 .taken))
 
 returns-2 : tie.Need-returns-2
-returns-2 c = simp (ne-eqb _ _ (simp (c .before .wide2 .ensures) at (c .if3 .left)), eq-eqb _ _ (simp (c .before .before .before .wide .ensures) at (c .before .before .if2 .taken)), le-leb _ _ (c .before .before .before .before .if1 .taken), c .before .wide2 .ensures, c .before .before .before .wide .ensures)
+returns-2 c = simp (ne-eqb _ _ (simp (c .before .wide2 .ensures) at (c .if3 .left)), eq-eqb _ _ (simp (c .before .before .before .wide .ensures) at (c .before .before .if2 .taken)), le-leb _ _ (c .before .before .before .before .if1 .taken))
 
 wide-requires-3 : tie.Need-wide-requires-3
 wide-requires-3 c κs = search needs
 
 returns-3 : tie.Need-returns-3
-returns-3 c = simp (eq-eqb _ _ (simp (c .before .wide3 .ensures) at (c .if4 .taken)), ne-eqb _ _ (simp (c .before .before .before .wide .ensures) at (c .before .before .if2 .left)), le-leb _ _ (c .before .before .before .before .if1 .taken), c .before .wide3 .ensures, c .before .before .before .wide .ensures)
+returns-3 c = simp (eq-eqb _ _ (simp (c .before .wide3 .ensures) at (c .if4 .taken)), ne-eqb _ _ (simp (c .before .before .before .wide .ensures) at (c .before .before .if2 .left)), le-leb _ _ (c .before .before .before .before .if1 .taken))
 
 returns-4 : tie.Need-returns-4
-returns-4 c = simp (ne-eqb _ _ (simp (c .before .wide3 .ensures) at (c .if4 .left)), ne-eqb _ _ (simp (c .before .before .before .wide .ensures) at (c .before .before .if2 .left)), le-leb _ _ (c .before .before .before .before .if1 .taken), c .before .wide3 .ensures, c .before .before .before .wide .ensures)
+returns-4 c = simp (ne-eqb _ _ (simp (c .before .wide3 .ensures) at (c .if4 .left)), ne-eqb _ _ (simp (c .before .before .before .wide .ensures) at (c .before .before .if2 .left)), le-leb _ _ (c .before .before .before .before .if1 .taken))
 
 returns-5 : tie.Need-returns-5
 returns-5 c = simp (lt-leb _ _ (c .if1 .left))

@@ -1,11 +1,10 @@
 -- `plan::nodes::nested_ok` meets its contract: the table of the nodes passed is filled, and their undo sides hold no compensation.
 use mathlib.Core.Path.{_≡_, refl, sym, _∙_}
-use Prim.Native.Nat.{_*_, _-_, _<_}
+use Prim.Native.Nat.{_-_}
 use native.Mathlib.Omega.{arith}
-use borrow.Author.Needs.{needs}
 use borrow.Author.Tests.{not-true, not-false}
 use Rattle.blocks.proofs.Bounded.{every-fails, passed-all}
-use Rattle.plan.specs.Nodes.{count, form, left, right}
+use Rattle.plan.specs.Nodes.{count, left}
 use Rattle.plan.proofs.Nested.{undoTest, Filled, filled-none, undo-entry, filled-more}
 use Rattle.plan.proofs.nodes.nested_ok.Statement.{statement}
 use Rattle.plan.proofs.nodes.nested_ok.Tie as tie

@@ -29,13 +29,13 @@ apart-from-all-requires : tie.Need-apart-from-all-requires
 apart-from-all-requires c κs = search needs
 
 returns : tie.Need-returns
-returns c = simp (lt-ltb _ _ (simp (c .before .before .wide2 .ensures) at (c .before .if2 .taken)), lt-ltb _ _ (simp (c .before .before .before .before .wide .ensures) at (c .before .before .before .if1 .taken)), c .apart-from-all .ensures, c .before .before .wide2 .ensures, c .before .before .before .before .wide .ensures)
+returns c = simp (lt-ltb _ _ (simp (c .before .before .wide2 .ensures) at (c .before .if2 .taken)), lt-ltb _ _ (simp (c .before .before .before .before .wide .ensures) at (c .before .before .before .if1 .taken)), c .apart-from-all .ensures)
 
 returns-2 : tie.Need-returns-2
-returns-2 c = simp (le-ltb _ _ (simp (c .before .wide2 .ensures) at (c .if2 .left)), lt-ltb _ _ (simp (c .before .before .before .wide .ensures) at (c .before .before .if1 .taken)), c .before .wide2 .ensures, c .before .before .before .wide .ensures)
+returns-2 c = simp (le-ltb _ _ (simp (c .before .wide2 .ensures) at (c .if2 .left)), lt-ltb _ _ (simp (c .before .before .before .wide .ensures) at (c .before .before .if1 .taken)))
 
 returns-3 : tie.Need-returns-3
-returns-3 c = simp (le-ltb _ _ (simp (c .before .wide .ensures) at (c .if1 .left)), c .before .wide .ensures)
+returns-3 c = simp (le-ltb _ _ (simp (c .before .wide .ensures) at (c .if1 .left)))
 
 pub pair-ok-spec : {M : Type 1} → statement M
 pair-ok-spec = tie.close (tie.spec mul-action shared-slice-read-action mul-undo add-undo shared-slice-read-undo wide-requires wide-requires-2 apart-from-all-requires returns returns-2 returns-3)

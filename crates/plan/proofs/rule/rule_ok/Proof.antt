@@ -1,11 +1,11 @@
 -- `plan::rule::rule_ok` meets its contract: what is left of the rule, from the values so far, is what the whole rule is from none.
 use mathlib.Core.Path.{_≡_, refl, sym, _∙_}
-use Prim.Native.Nat.{ℕ, _+_, _-_, _≤_}
+use Prim.Native.Nat.{_-_, _≤_}
 use native.Mathlib.Omega.{arith}
-use lib.ListN.{length, drop, getD}
+use lib.ListN.{length, drop}
 use borrow.Author.Needs.{needs}
 use borrow.Author.Tests.{le-leb, lt-leb}
-use Rattle.plan.specs.Rule.{operands, ruleFrom}
+use Rattle.plan.specs.Rule.{ruleFrom}
 use Rattle.plan.proofs.Scan.{rule-step, rule-end}
 use Rattle.plan.proofs.rule.rule_ok.Statement.{statement}
 use Rattle.plan.proofs.rule.rule_ok.Tie as tie

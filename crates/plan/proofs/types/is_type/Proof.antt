@@ -1,5 +1,4 @@
 -- `plan::types::is_type` meets its contract: each return by the tests that led there.
-use borrow.Author.Needs.{needs}
 use borrow.Author.Tests.{le-leb, lt-leb}
 use Rattle.plan.proofs.types.is_type.Statement.{statement}
 use Rattle.plan.proofs.types.is_type.Tie as tie
