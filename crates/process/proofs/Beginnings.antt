@@ -9,7 +9,7 @@ use Rattle.process.specs.Figure2.{Complete}
 use Rattle.process.specs.Cells.{ending, Outcomes, noneRun, setOutcome, outcomesAfter, Holds, levelsOf, toldEnded, toldNext}
 use Rattle.process.specs.Beginnings.{AsWritten, HasLeaf, LeafPermits, Distinct, Begins, Beginnings, BeginningsTold}
 use Rattle.process.proofs.Marked.{Marked, m-node, fresh, unmarked, WholeEnds, mark, whole, Steps, still, first, r-going}
-use Rattle.process.proofs.Undo.{Within, within, as-written, distinct, step-permits, permits-leaf, step-marks}
+use Rattle.process.proofs.Undo.{Within, step-permits, permits-leaf, step-marks}
 use Rattle.process.proofs.Reached.{reach-fresh}
 use Rattle.process.proofs.Whole.{join, split, reach-steps, WholeRuns}
 use Rattle.process.proofs.Forms.{permitted, all-runs}
@@ -56,7 +56,7 @@ module _ (k : ℕ) (P : Process) (g : Within k P) where
 
   steps-after : {w : Run} {X T : Marked} (table : Outcomes) → X ≡ markedBy table P → Steps whole X w T → T ≡ markedBy (outcomesAfter table w) P
   steps-after table e still = e
-  steps-after table e (first {e = entry n s} r t) = steps-after (setOutcome table n s) (step-marks n s k (rw e at r) (marked-within table) ∙ mark-is table n s P) t
+  steps-after table e (first {e = entry n s} r t) = steps-after (setOutcome table n s) (step-marks n s (rw e at r) (marked-within table .distinct) ∙ mark-is table n s P) t
 
   reached : (w : Run) → Begins P w → Steps whole (fresh P) w (markedBy (after w) P)
   reached w (z, s, c) =
@@ -70,7 +70,7 @@ module _ (k : ℕ) (P : Process) (g : Within k P) where
       (z, s, R .from (reach-steps (join t t′) (r-going (reach-fresh P))) x)
 
   shown : (n : ℕ) (s : Status) (w : Run) → LeafPermits n s P → ShowsAll n s (levelsOf k (after w) P) (markedBy (after w) P)
-  shown n s w p = shows n s k (after w) P g (fits n s P (distinct k P g) p)
+  shown n s w p = shows n s k (after w) P g (fits n s P (g .distinct) p)
 
   module _ (w : Run) (b : Begins P w) where
     abbrev T : Marked
@@ -98,7 +98,7 @@ module _ (k : ℕ) (P : Process) (g : Within k P) where
     ends-told s = (λ h. R .from (reach-steps (reached w b) (r-going (reach-fresh P))) (tells .0 h), λ c. let (X, t, x) = R .to c in tells .1 (rw (steps-after noneRun (fresh-is P) t) at x))
       where
         tells : (toldEnded k P w ≡ ending s) ↔ WholeEnds T s
-        tells = let (n, t, p) = a-leaf P (as-written k P g) in ended-iff n t k T (levelsOf k (after w) P) (shown n t w p) (marked-within (after w)) s
+        tells = let (n, t, p) = a-leaf P (g .written) in ended-iff n t k T (levelsOf k (after w) P) (shown n t w p) (marked-within (after w)) s
 
   pub told : Beginnings k P
   told = record {
@@ -107,8 +107,8 @@ module _ (k : ℕ) (P : Process) (g : Within k P) where
     next = λ w b n s. nexts w b n s;
     ends = λ w b s. ends-told w b s;
     reaches = λ w b. (b .0, b .1, b .2, complete-length w (b .0) (b .2));
-    once = λ w b n. complete-once n w (b .0) (distinct k P g) (b .2);
+    once = λ w b n. complete-once n w (b .0) (g .distinct) (b .2);
   }
 
 pub beginnings : BeginningsTold
-beginnings depth P w d h = told depth P (within depth P w d h)
+beginnings depth P w d h = told depth P (record { written = w; distinct = d; depth = h })

@@ -11,9 +11,9 @@ use Rattle.process.specs.declared.cells.Ended.{Ended}
 use Rattle.process.specs.declared.cells.Ended.the-variants.{Open, Succeeded, Failed}
 use Rattle.process.specs.Cells.{pick, ending, sequenceEnded, parallelEnded, handlerEnded}
 use Rattle.process.specs.Beginnings.{AsWritten}
-use Rattle.process.proofs.Marked.{Marked, m-done, m-node, fresh, unmarked, hasBegun, endedAs, undo, WholeEnds, ends-ok, Mode, forward, whole, at-leaf, Steps, still, first, in-turn, Reached, r-waits, r-leaf, r-left, r-both, r-going, r-undoing}
-use Rattle.process.proofs.Alike.{interleave-nil, nil-interleave, interleave-nil-is, nil-interleave-is, alike, in-sequence, in-parallel, joined-stands}
-use Rattle.process.proofs.Undo.{Within, less, UndoWithin, as-written, joined-done}
+use Rattle.process.proofs.Marked.{Marked, m-done, m-node, fresh, unmarked, hasBegun, endedAs, Pairing, in-sequence, in-parallel, undo, WholeEnds, ends-ok, Mode, forward, whole, at-leaf, Steps, still, first, in-turn, Reached, r-waits, r-leaf, r-left, r-both, r-going, r-undoing}
+use Rattle.process.proofs.Alike.{interleave-nil, nil-interleave, interleave-nil-is, nil-interleave-is, alike, joined-stands}
+use Rattle.process.proofs.Undo.{Within, left-within, right-within, UndoWithin, joined-done}
 use Rattle.process.proofs.Reached.{not-open, not-failed, unmarked-fresh, fresh-begun, fresh-open, fresh-undo, reach-fresh, not-begun, interleave-append, interleaved, whole-failed}
 use Rattle.process.proofs.Whole.{join, joins, reach-steps, steps-left, steps-right, steps-both, steps-going, RunsTo, RanTo, CanEnd, ForwardRuns, WholeRuns, whole-runs, whole-done}
 
@@ -222,15 +222,18 @@ module _ {P Q : Process} (wP : AsWritten P) (wQ : AsWritten Q) (FP : ForwardRuns
           gos (r-left r) = let (z, A, s, t, x) = WP .go r in go-on t x
           gos (r-both x r t e) = go-right x t
 
+node-runs : (f : Form) {P Q : Process} → AsWritten P → AsWritten Q → ForwardRuns P → ForwardRuns Q → (ForwardRuns P → WholeRuns P) → ForwardRuns (node f P Q)
+node-runs sequence wP wQ FP FQ W = sequence-runs wP wQ FP FQ
+node-runs parallel wP wQ FP FQ W = parallel-runs wP wQ FP FQ
+node-runs choice wP wQ FP FQ W = choice-runs wP wQ FP FQ
+node-runs compensation wP wQ FP FQ W = compensation-runs wP wQ FP
+node-runs handler wP wQ FP FQ W = handler-runs wP wQ FP FQ (W FP)
+
 module _ (k : ℕ) (less-deep : (N : Process) → UndoWithin k (fresh N) → WholeRuns N) where
   forward-runs : (P : Process) → Within k P → ForwardRuns P
-  forward-runs done g = absurd g
+  forward-runs done g = absurd (g .written)
   forward-runs (leaf n kind) g = leaf-runs n kind
-  forward-runs (node sequence P Q) g = sequence-runs (as-written k P (g .0)) (as-written k Q (g .1)) (forward-runs P (g .0)) (forward-runs Q (g .1))
-  forward-runs (node parallel P Q) g = parallel-runs (as-written k P (g .0)) (as-written k Q (g .1)) (forward-runs P (g .0)) (forward-runs Q (g .1))
-  forward-runs (node choice P Q) g = choice-runs (as-written k P (g .0)) (as-written k Q (g .1)) (forward-runs P (g .0)) (forward-runs Q (g .1))
-  forward-runs (node compensation P Q) g = compensation-runs (as-written k P (g .0)) (as-written (less compensation k) Q (g .1)) (forward-runs P (g .0))
-  forward-runs (node handler P Q) g = let F = forward-runs P (g .0) in handler-runs (as-written k P (g .0)) (as-written k Q (g .1)) F (forward-runs Q (g .1)) (whole-runs k P (g .0) F less-deep)
+  forward-runs (node f P Q) g = node-runs f (g .written .0) (g .written .1) (forward-runs P (left-within g)) (forward-runs Q (right-within g)) (λ F. whole-runs k P (left-within g) F less-deep)
 
 fresh-done : (N : Process) → fresh N ≡ m-done → WholeRuns N
 fresh-done N e = let d : done ≡ N = ap unmarked (sym e) ∙ unmarked-fresh N in rw (← d) whole-done

@@ -48,6 +48,11 @@ isDone m-done = true
 isDone (m-leaf n k o) = false
 isDone (m-node f A B) = false
 
+-- The forms that undos are joined by.
+pub data Pairing : Form → Type 0 where
+  in-sequence : Pairing sequence
+  in-parallel : Pairing parallel
+
 -- Two undos as one: an empty one falls away.
 abbrev pub joined : Form → Marked → Marked → Marked
 joined f U W = pick (isDone U) W (pick (isDone W) U (m-node f U W))

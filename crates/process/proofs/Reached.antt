@@ -142,7 +142,7 @@ abbrev Fresh : Marked → Type 0
 Fresh U = U ≡ fresh (unmarked U)
 
 joined-fresh : (f : Form) (U W : Marked) → Fresh U → Fresh W → Fresh (joined f U W)
-joined-fresh f U W h i = joined-way Fresh f U W h i (ap₂ (m-node f) h i)
+joined-fresh f U W h i = joined-way Fresh f U W h i (λ u w. ap₂ (m-node f) h i)
 
 fresh-fresh : (P : Process) → Fresh (fresh P)
 fresh-fresh P = rw (unmarked-fresh P)

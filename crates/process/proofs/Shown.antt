@@ -9,9 +9,8 @@ use Rattle.process.specs.declared.cells.Ended.{Ended}
 use Rattle.process.specs.declared.cells.Ended.the-variants.{Open, Succeeded, Failed}
 use Rattle.process.specs.declared.cells.Cell.{Cell}
 use Rattle.process.specs.Cells.{pick, ending, isSucceeded, isFailed, Outcomes, Holds, given, emptyCell, leafCell, leftMay, rightMay, nodeCell, joinCell, Levels, undoLevels, thenUndo, wholeEnded, wholeNext, leftNext, inTurn, nodeUndo, leafLevels, levelsOf}
-use Rattle.process.proofs.Marked.{Marked, m-done, m-leaf, m-node, unmarked, hasBegun, endedAs, isDone, joined, undo, nodeUndone, WholeEnds, ends-ok, ends-fail, MarksUndo, LeftMay, RightMay, Mode, forward, whole, leftMode, Step, at-leaf, on-left, on-right, going, undoing}
-use Rattle.process.proofs.Alike.{Pairing, in-sequence, in-parallel}
-use Rattle.process.proofs.Undo.{Within, less, right-deeper, UndoWithin, undo-again, joined-done, undo-step, step-leaf}
+use Rattle.process.proofs.Marked.{Marked, m-done, m-leaf, m-node, unmarked, hasBegun, endedAs, isDone, Pairing, in-sequence, in-parallel, joined, undo, nodeUndone, WholeEnds, ends-ok, ends-fail, MarksUndo, LeftMay, RightMay, Mode, forward, whole, leftMode, Step, at-leaf, on-left, on-right, going, undoing}
+use Rattle.process.proofs.Undo.{Within, left-within, right-within, UndoWithin, undo-again, joined-done, undo-step, step-leaf}
 use Rattle.process.proofs.Reached.{not-both, not-open, not-failed}
 use Rattle.process.proofs.Leaves.{holds-none, union-holds, left-holds, right-holds, only-holds, holds-only}
 use Rattle.process.proofs.Forms.{ending-one}
@@ -227,13 +226,13 @@ module _ (n : ℕ) (s : Status) where
 
   -- The fold shows the tree at every level.
   pub shows : (k : ℕ) (table : Outcomes) (P : Process) → Within k P → Fits n s P → ShowsAll (levelsOf k table P) (markedBy table P)
-  shows k table done g p i = absurd g
+  shows k table done g p i = absurd (g .written)
   shows k table (leaf m kind) g p i = shows-leaf m kind (table m) p i
   shows k table (node f P Q) g p zero =
-      let S = shows k table P (g .0) (p .0) in
+      let S = shows k table P (left-within g) (p .0) in
       let A = markedBy table P in
-      let w : Within k (unmarked A) = rw (unmarked-by table P) (g .0) in
+      let w : Within k (unmarked A) = rw (unmarked-by table P) (left-within g) in
       let a = levelsOf k table P in
-      shows-node f (isFailed (wholeEnded k a)) (leftNext f (a zero .next) (wholeNext k a)) (S zero) (shows k table Q (right-deeper f k Q (g .1)) (p .1) zero) (left-next-iff k f A a S w)
+      shows-node f (isFailed (wholeEnded k a)) (leftNext f (a zero .next) (wholeNext k a)) (S zero) (shows k table Q (right-within g) (p .1) zero) (left-next-iff k f A a S w)
       (right-iff f (S zero) (λ e. ended-iff k A a S w fail .0 (of-failed (wholeEnded k a) e), λ x. ap isFailed (ended-iff k A a S w fail .1 x)))
-  shows k table (node f P Q) g p (suc i) = shows-undo f (markedBy table P) (markedBy table Q) (levelsOf k table P) (levelsOf k table Q) (shows k table P (g .0) (p .0)) (shows k table Q (right-deeper f k Q (g .1)) (p .1)) i
+  shows k table (node f P Q) g p (suc i) = shows-undo f (markedBy table P) (markedBy table Q) (levelsOf k table P) (levelsOf k table Q) (shows k table P (left-within g) (p .0)) (shows k table Q (right-within g) (p .1)) i
