@@ -1,7 +1,7 @@
 -- Worked examples: the report's Examples 1 and 2, and a plan with a compensation in an undo side.
 use mathlib.Core.Path.{_≡_, refl}
 use mathlib.Core.List.{List, [], _∷_, _++_}
-use mathlib.Core.Logic.{_⊎_, inl, inr, _↔_}
+use mathlib.Core.Logic.{_⊎_, inl, inr}
 use Prim.Native.Nat.{ℕ}
 use native.Mathlib.Omega.{arith}
 use Rattle.process.specs.Process.{Status, ok, fail, finishes, fails, either, sequence, compensation, Process, done, leaf, node, entry, Run}

@@ -1,23 +1,26 @@
 -- What a run reaches. The start; a tree that has not begun is as at the start; the undo of a tree that goes forward has not begun; and
 -- a step from a reached tree reaches a tree by one entry more.
 use mathlib.Core.Path.{_≡_, refl, sym, _∙_, ap, ap₂}
-use mathlib.Core.List.{List, [], _∷_, _++_, append-assoc, append-nil, cons≢nil}
-use mathlib.Core.Bool.{Bool, true, false, _||_, true≢false}
+use mathlib.Core.List.{[], _∷_, _++_, append-assoc, append-nil, cons≢nil}
+use mathlib.Core.Bool.{Bool, true, false, not, _||_, true≢false}
 use mathlib.Core.Logic.{_⊎_, inl, inr}
-use Prim.Native.Nat.{ℕ}
 use Rattle.process.specs.Process.{Status, ok, fail, Form, sequence, parallel, choice, compensation, handler, Process, done, leaf, node, Entry, entry, Run}
 use Rattle.process.specs.Figure2.{Interleaving, neither, from-left, from-right}
 use Rattle.process.specs.declared.cells.Ended.{Ended}
 use Rattle.process.specs.declared.cells.Ended.the-variants.{Open, Succeeded, Failed}
-use Rattle.process.specs.Cells.{pick, ending, isSucceeded, isFailed, nodeBegun, nodeEnded}
+use Rattle.process.specs.Cells.{ending, isSucceeded, nodeBegun, nodeEnded}
 use Rattle.process.specs.Beginnings.{AsWritten}
-use Rattle.process.proofs.Marked.{Marked, m-done, m-leaf, m-node, fresh, unmarked, hasRun, hasBegun, endedAs, joined, undo, nodeUndone, WholeEnds, ends-ok, ends-fail, mark, RightMay, Mode, forward, whole, leftMode, Step, at-leaf, on-left, on-right, going, undoing, Merged, in-turn, mixed, Reached, r-done, r-waits, r-leaf, r-left, r-both, r-going, r-undoing}
+use Rattle.process.proofs.Marked.{Marked, m-done, m-leaf, m-node, fresh, unmarked, hasRun, hasBegun, endedAs, joined, undo, nodeUndone, WholeEnds, ends-fail, mark, RightMay, Mode, forward, whole, leftMode, Step, at-leaf, on-left, on-right, going, undoing, Merged, in-turn, mixed, Reached, r-done, r-waits, r-leaf, r-left, r-both, r-going, r-undoing}
 use Rattle.process.proofs.Alike.{nil-interleave, interleave-nil-is}
 use Rattle.process.proofs.Undo.{either-way, joined-way, unmarked-mark}
 
 -- Statuses and tests that exclude each other.
 pub not-both : {A : Type 0} {test : Bool} → test ≡ true → test ≡ false → A
 not-both p q = absurd (true≢false (sym p ∙ q))
+
+pub of-not : {test : Bool} → not test ≡ true → test ≡ false
+of-not {test = true} e = sym e
+of-not {test = false} e = refl
 
 pub ending-run : (s : Status) → hasRun (ending s) ≡ true
 ending-run ok = refl
@@ -221,8 +224,8 @@ merged-more e (in-turn {p = p} {q = q} m) = in-turn (more p q e m)
 merged-more e (mixed m) = mixed (more-right e m)
 
 -- The right side has not begun: the left goes on as if it had run alone.
-left-again : {f : Form} {P Q : Process} (p : Run) {q r : Run} {A B : Marked} (e : Entry) → Reached forward Q q B → hasBegun B ≡ false → p ++ q ≡ r → Reached (leftMode f) P (p ++ (e ∷ [])) A → Reached forward (node f P Q) (r ++ (e ∷ [])) (m-node f A B)
-left-again p e t h m r = let z = not-begun t h in rw (← m, z .0, append-nil, z .1) (r-left r)
+left-again : {f : Form} {P Q : Process} (p : Run) {q r : Run} {A B : Marked} (e : Entry) → Reached forward Q q B → not (hasBegun B) ≡ true → p ++ q ≡ r → Reached (leftMode f) P (p ++ (e ∷ [])) A → Reached forward (node f P Q) (r ++ (e ∷ [])) (m-node f A B)
+left-again p e t h m r = let z = not-begun t (of-not h) in rw (← m, z .0, append-nil, z .1) (r-left r)
 
 pub reach-step : {m : Mode} {P : Process} {w : Run} {T T′ : Marked} {e : Entry} → Step m T e T′ → Reached m P w T → Reached m P (w ++ (e ∷ [])) T′
 reach-step (at-leaf m) r-waits = r-leaf m refl

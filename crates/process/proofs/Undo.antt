@@ -3,11 +3,11 @@
 use mathlib.Core.Path.{_≡_, refl, sym, _∙_, ap}
 use mathlib.Core.Bool.{Bool, true, false, true≢false}
 use mathlib.Core.Logic.{_⊎_, inl, inr}
-use Prim.Native.Nat.{ℕ, zero, suc, _≤_, max}
+use Prim.Native.Nat.{ℕ, zero, suc, _≤_}
 use native.Mathlib.Omega.{arith}
 use borrow.Author.Tests.{eq-eqb, ne-eqb}
 use Rattle.process.specs.Process.{Status, Kind, Permits, Form, sequence, parallel, choice, compensation, handler, Process, done, leaf, node, entry}
-use Rattle.process.specs.Cells.{pick, ending, isSucceeded}
+use Rattle.process.specs.Cells.{pick, isSucceeded}
 use Rattle.process.specs.declared.cells.Ended.{Ended}
 use Rattle.process.specs.Beginnings.{AsWritten, SomeLeaf, HasLeaf, LeafPermits, Apart, Distinct, rightDepth, undoDepth}
 use Rattle.process.proofs.Marked.{Marked, m-done, m-leaf, m-node, unmarked, hasBegun, endedAs, isDone, Pairing, in-sequence, in-parallel, joined, undo, nodeUndone, mark, MarksUndo, Mode, whole, Step, at-leaf, on-left, on-right, going, undoing}

@@ -9,7 +9,7 @@ use Rattle.process.specs.declared.cells.Cells.{Cells}
 use Rattle.process.specs.declared.cells.Told.{Told}
 use Rattle.process.specs.declared.cells.Composite.{Composite}
 use Rattle.process.specs.declared.cells.Composite.the-variants.{Sequence, Parallel, Choice, Compensation, Handler}
-use Rattle.process.specs.Cells.{pick, Outcomes, noneRun, outcomesAfter, emptyCell, Levels, wholeEnded, wholeNext, nodeLevels, leafLevels, levelsOf, toldEnded, toldNext}
+use Rattle.process.specs.Cells.{pick, Outcomes, noneRun, outcomesAfter, emptyCell, Levels, wholeEnded, wholeNext, nodeLevels, leafLevels, cellsOf, toldEnded, toldNext}
 
 abbrev pub levels : Cells → Levels
 levels a zero = a .forward
@@ -50,11 +50,11 @@ abbrev pub toldTwo : Cells → Told
 toldTwo a = record { ended = wholeEnded 1 (levels a); next = wholeNext 1 (levels a) }
 
 -- The cells of a process.
-abbrev pub cellsOf : Outcomes → Process → Cells
-cellsOf table P = two (levelsOf 1 table P)
+abbrev pub cellsTwo : Outcomes → Process → Cells
+cellsTwo table P = two (cellsOf 1 table P)
 
 -- From the leaves up, the code's cells of a process are those of the definition, and what is told at the root is what Beginnings speaks of.
 pub record TwoLevelsFold : Type 0 where
-  pub at-leaf : (table : Outcomes) (n : ℕ) (k : Kind) → n < 64 → leafTwo n (table n) ≡ cellsOf table (leaf n k)
-  pub at-node : (table : Outcomes) (number : ℕ) (P Q : Process) → nodeTwo number (cellsOf table P) (cellsOf table Q) ≡ cellsOf table (node (numberForm number) P Q)
-  pub at-root : (w : Run) (P : Process) → toldTwo (cellsOf (outcomesAfter noneRun w) P) ≡ record { ended = toldEnded 1 P w; next = toldNext 1 P w }
+  pub at-leaf : (table : Outcomes) (n : ℕ) (k : Kind) → n < 64 → leafTwo n (table n) ≡ cellsTwo table (leaf n k)
+  pub at-node : (table : Outcomes) (number : ℕ) (P Q : Process) → nodeTwo number (cellsTwo table P) (cellsTwo table Q) ≡ cellsTwo table (node (numberForm number) P Q)
+  pub at-root : (w : Run) (P : Process) → toldTwo (cellsTwo (outcomesAfter noneRun w) P) ≡ record { ended = toldEnded 1 P w; next = toldNext 1 P w }
