@@ -11,17 +11,12 @@ use Rattle.process.specs.declared.cells.Ended.{Ended}
 use Rattle.process.specs.declared.cells.Ended.the-variants.{Open, Succeeded, Failed}
 use Rattle.process.specs.Cells.{pick, ending, sequenceEnded, parallelEnded, handlerEnded}
 use Rattle.process.specs.Beginnings.{AsWritten}
+use Rattle.process.proofs.Endings.{not-open, ending-one}
 use Rattle.process.proofs.Marked.{Marked, m-done, m-node, fresh, unmarked, hasBegun, endedAs, in-sequence, in-parallel, undo, WholeEnds, ends-ok, Mode, forward, whole, at-leaf, Steps, still, first, in-turn, Reached, r-waits, r-leaf, r-left, r-both, r-going, r-undoing}
 use Rattle.process.proofs.Alike.{interleave-nil, nil-interleave, interleave-nil-is, nil-interleave-is, alike, joined-stands}
 use Rattle.process.proofs.Undo.{Within, left-within, right-within, UndoWithin, joined-done}
-use Rattle.process.proofs.Reached.{not-open, not-failed, unmarked-fresh, fresh-begun, fresh-open, fresh-undo, reach-fresh, not-begun, interleave-append, interleaved, whole-failed}
+use Rattle.process.proofs.Reached.{unmarked-fresh, fresh-begun, fresh-open, fresh-undo, reach-fresh, not-begun, interleave-append, interleaved, whole-failed}
 use Rattle.process.proofs.Whole.{join, joins, reach-steps, steps-left, steps-right, steps-both, steps-going, RunsTo, RanTo, CanEnd, ForwardRuns, WholeRuns, whole-runs, whole-done}
-
-pub ending-one : (s t : Status) → ending s ≡ ending t → s ≡ t
-ending-one ok ok h = refl
-ending-one ok fail h = not-failed refl h
-ending-one fail ok h = not-failed refl (sym h)
-ending-one fail fail h = refl
 
 waits : (Q : Process) → not (hasBegun (fresh Q)) ≡ true
 waits Q = ap not (fresh-begun Q)

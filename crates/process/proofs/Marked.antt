@@ -9,6 +9,7 @@ use Rattle.process.specs.Process.{Status, ok, fail, Kind, Permits, Form,
 use Rattle.process.specs.Figure2.{Interleaving}
 use Rattle.process.specs.declared.cells.Ended.{Ended}
 use Rattle.process.specs.declared.cells.Ended.the-variants.{Open, Succeeded, Failed}
+use Rattle.process.proofs.Endings.{hasRun}
 use Rattle.process.specs.Cells.{pick, ending, isSucceeded, nodeBegun, nodeEnded, leftMay}
 
 pub data Marked : Type 0 where
@@ -26,11 +27,6 @@ abbrev pub unmarked : Marked → Process
 unmarked m-done = done
 unmarked (m-leaf n k o) = leaf n k
 unmarked (m-node f A B) = node f (unmarked A) (unmarked B)
-
-abbrev pub hasRun : Ended → Bool
-hasRun Open = false
-hasRun Succeeded = true
-hasRun Failed = true
 
 abbrev pub hasBegun : Marked → Bool
 hasBegun m-done = false

@@ -2,43 +2,18 @@
 -- a step from a reached tree reaches a tree by one entry more.
 use mathlib.Core.Path.{_≡_, refl, sym, _∙_, ap, ap₂}
 use mathlib.Core.List.{[], _∷_, _++_, append-assoc, append-nil, cons≢nil}
-use mathlib.Core.Bool.{Bool, true, false, not, _||_, true≢false}
+use mathlib.Core.Bool.{Bool, true, false, not}
 use mathlib.Core.Logic.{_⊎_, inl, inr}
-use Rattle.process.specs.Process.{Status, ok, fail, Form, sequence, parallel, choice, compensation, handler, Process, done, leaf, node, Entry, entry, Run}
+use Rattle.process.specs.Process.{fail, Form, sequence, parallel, choice, compensation, handler, Process, done, leaf, node, Entry, entry, Run}
 use Rattle.process.specs.Figure2.{Interleaving, neither, from-left, from-right}
 use Rattle.process.specs.declared.cells.Ended.{Ended}
 use Rattle.process.specs.declared.cells.Ended.the-variants.{Open, Succeeded, Failed}
-use Rattle.process.specs.Cells.{ending, isSucceeded, nodeBegun, nodeEnded}
+use Rattle.process.specs.Cells.{isSucceeded, nodeBegun, nodeEnded}
 use Rattle.process.specs.Beginnings.{AsWritten}
-use Rattle.process.proofs.Marked.{Marked, m-done, m-leaf, m-node, fresh, unmarked, hasRun, hasBegun, endedAs, joined, undo, nodeUndone, WholeEnds, ends-fail, mark, RightMay, Mode, forward, whole, leftMode, Step, at-leaf, on-left, on-right, going, undoing, Merged, in-turn, mixed, Reached, r-done, r-waits, r-leaf, r-left, r-both, r-going, r-undoing}
+use Rattle.process.proofs.Endings.{hasRun, ending-run, not-both, of-not, not-open, not-failed, or-true, or-false}
+use Rattle.process.proofs.Marked.{Marked, m-done, m-leaf, m-node, fresh, unmarked, hasBegun, endedAs, joined, undo, nodeUndone, WholeEnds, ends-fail, mark, RightMay, Mode, forward, whole, leftMode, Step, at-leaf, on-left, on-right, going, undoing, Merged, in-turn, mixed, Reached, r-done, r-waits, r-leaf, r-left, r-both, r-going, r-undoing}
 use Rattle.process.proofs.Alike.{nil-interleave, interleave-nil-is}
 use Rattle.process.proofs.Undo.{either-way, joined-way, unmarked-mark}
-
--- Statuses and tests that exclude each other.
-pub not-both : {A : Type 0} {test : Bool} → test ≡ true → test ≡ false → A
-not-both p q = absurd (true≢false (sym p ∙ q))
-
-pub of-not : {test : Bool} → not test ≡ true → test ≡ false
-of-not {test = true} e = sym e
-of-not {test = false} e = refl
-
-pub ending-run : (s : Status) → hasRun (ending s) ≡ true
-ending-run ok = refl
-ending-run fail = refl
-
-pub not-open : {A : Type 0} {x : Ended} (s : Status) → x ≡ Open → x ≡ ending s → A
-not-open s p q = not-both (ap hasRun q ∙ ending-run s) (ap hasRun p)
-
-pub not-failed : {A : Type 0} {x : Ended} → x ≡ Succeeded → x ≡ Failed → A
-not-failed p q = not-both (ap isSucceeded p) (ap isSucceeded q)
-
-or-true : (a : Bool) → (a || true) ≡ true
-or-true true = refl
-or-true false = refl
-
-or-false : (a b : Bool) → (a || b) ≡ false → (a ≡ false) × (b ≡ false)
-or-false true b h = (h, cc)
-or-false false b h = (refl, h)
 
 pub unmarked-fresh : (P : Process) → unmarked (fresh P) ≡ P
 unmarked-fresh done = refl

@@ -9,22 +9,10 @@ use Rattle.process.specs.declared.cells.Ended.{Ended}
 use Rattle.process.specs.declared.cells.Ended.the-variants.{Open, Succeeded, Failed}
 use Rattle.process.specs.declared.cells.Cell.{Cell}
 use Rattle.process.specs.Cells.{pick, ending, isSucceeded, isFailed, Outcomes, Holds, given, emptyCell, leafCell, leftMay, rightMay, nodeCell, joinCell, Levels, undoLevels, thenUndo, wholeEnded, wholeNext, leftNext, inTurn, nodeUndo, leafLevels, cellsOf}
+use Rattle.process.proofs.Endings.{not-both, of-not, not-open, ending-one, of-succeeded, of-failed}
 use Rattle.process.proofs.Marked.{Marked, m-done, m-leaf, m-node, unmarked, hasBegun, endedAs, isDone, Pairing, in-sequence, in-parallel, joined, undo, nodeUndone, WholeEnds, ends-ok, ends-fail, MarksUndo, RightMay, Mode, forward, whole, leftMode, Step, at-leaf, on-left, on-right, going, undoing}
 use Rattle.process.proofs.Undo.{Within, left-within, right-within, UndoWithin, undo-again, joined-done, undo-step, step-leaf}
-use Rattle.process.proofs.Reached.{not-both, of-not, not-open}
 use Rattle.process.proofs.Leaves.{holds-none, union-holds, left-holds, right-holds, only-holds, holds-only}
-use Rattle.process.proofs.Forms.{ending-one}
-
--- Tests and what they say.
-of-succeeded : (x : Ended) → isSucceeded x ≡ true → x ≡ Succeeded
-of-succeeded Open e = not-both e refl
-of-succeeded Succeeded e = refl
-of-succeeded Failed e = not-both e refl
-
-of-failed : (x : Ended) → isFailed x ≡ true → x ≡ Failed
-of-failed Open e = not-both e refl
-of-failed Succeeded e = not-both e refl
-of-failed Failed e = refl
 
 -- The undo of two joined trees.
 undo-joined : {f : Form} → Pairing f → (U W : Marked) → undo (joined f U W) ≡ nodeUndone f (endedAs U) W (undo U) (undo W)

@@ -8,10 +8,11 @@ use Rattle.process.specs.Process.{Status, ok, fail, Form, parallel, Proc
 use Rattle.process.specs.Figure2.{Interleaving, neither, from-left, from-right, Forward, f-done, Complete, c-ok, c-fail}
 use Rattle.process.specs.declared.cells.Ended.the-variants.{Failed}
 use Rattle.process.specs.Cells.{ending}
+use Rattle.process.proofs.Endings.{not-failed}
 use Rattle.process.proofs.Marked.{Marked, m-done, m-node, fresh, unmarked, endedAs, undo, WholeEnds, ends-ok, ends-fail, mark, LeftMay, RightMay, Mode, forward, whole, leftMode, on-left, on-right, going, undoing, Steps, still, first, Reached, r-done, r-going, r-undoing}
 use Rattle.process.proofs.Alike.{Stands-for, back, alike-complete}
 use Rattle.process.proofs.Undo.{Within, UndoWithin, undo-within, undo-step, unmarked-mark}
-use Rattle.process.proofs.Reached.{not-failed, unmarked-fresh, reach-fresh, undo-not-begun, reached-process, reach-step}
+use Rattle.process.proofs.Reached.{unmarked-fresh, reach-fresh, undo-not-begun, reached-process, reach-step}
 
 -- Steps, put together and lifted to a composite.
 module _ {m : Mode} where
