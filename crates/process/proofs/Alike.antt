@@ -1,10 +1,10 @@
 -- Processes that are one but for empty sides of sequences and parallels have the same runs. The undo of a marked tree drops its empty
 -- sides, and so equals the process that Figure 2 leaves only up to these.
-use mathlib.Core.Path.{_≡_, refl, sym}
-use mathlib.Core.List.{List, [], _∷_, _++_, append-nil}
-use Rattle.process.specs.Process.{Status, ok, fail, Form, sequence, parallel, Process, done, leaf, node, Run}
+use mathlib.Core.Path.{_≡_, refl}
+use mathlib.Core.List.{[], _∷_, append-nil}
+use Rattle.process.specs.Process.{Status, ok, fail, Form, Process, done, leaf, node, Run}
 use Rattle.process.specs.Figure2.{both, Interleaving, neither, from-left, from-right, Forward, f-done, f-sequence, f-sequence-fails, f-parallel, f-parallel-left, f-parallel-right, Complete, c-ok, c-fail}
-use Rattle.process.proofs.Marked.{Marked, fresh, joined}
+use Rattle.process.proofs.Marked.{Marked, fresh, Pairing, in-sequence, in-parallel, joined}
 
 pub interleave-nil : (p : Run) → Interleaving p [] p
 interleave-nil [] = neither
@@ -25,11 +25,6 @@ nil-interleave-is (from-right i) = rw (nil-interleave-is i)
 both-ok : (s : Status) → both s ok ≡ s
 both-ok ok = refl
 both-ok fail = refl
-
--- The forms that undos are joined by.
-pub data Pairing : Form → Type 0 where
-  in-sequence : Pairing sequence
-  in-parallel : Pairing parallel
 
 pub data Alike : Process → Process → Type 0 where
   alike : {P : Process} → Alike P P

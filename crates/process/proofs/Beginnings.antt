@@ -1,15 +1,15 @@
 -- The theorem of specs/Beginnings: the tree that a beginning reaches is the process with the outcomes that the run has set, the cells
 -- show that tree, and its steps and ends are those of the runs.
-use mathlib.Core.Path.{_≡_, refl, sym, _∙_, ap₂}
-use mathlib.Core.List.{List, [], _∷_, _++_, append-assoc}
+use mathlib.Core.Path.{_≡_, refl, _∙_, ap₂}
+use mathlib.Core.List.{[], _∷_, _++_, append-assoc, append-nil}
 use mathlib.Core.Logic.{_⊎_, inl, inr, _↔_}
 use Prim.Native.Nat.{ℕ}
 use Rattle.process.specs.Process.{Status, Process, done, leaf, node, entry, Run}
 use Rattle.process.specs.Figure2.{Complete}
-use Rattle.process.specs.Cells.{ending, Outcomes, noneRun, setOutcome, outcomesAfter, Holds, levelsOf, toldEnded, toldNext}
+use Rattle.process.specs.Cells.{ending, Outcomes, noneRun, setOutcome, outcomesAfter, Holds, cellsOf, toldEnded, toldNext}
 use Rattle.process.specs.Beginnings.{AsWritten, HasLeaf, LeafPermits, Distinct, Begins, Beginnings, BeginningsTold}
 use Rattle.process.proofs.Marked.{Marked, m-node, fresh, unmarked, WholeEnds, mark, whole, Steps, still, first, r-going}
-use Rattle.process.proofs.Undo.{Within, within, as-written, distinct, step-permits, permits-leaf, step-marks}
+use Rattle.process.proofs.Undo.{Within, step-permits, permits-leaf, step-marks}
 use Rattle.process.proofs.Reached.{reach-fresh}
 use Rattle.process.proofs.Whole.{join, split, reach-steps, WholeRuns}
 use Rattle.process.proofs.Forms.{permitted, all-runs}
@@ -56,7 +56,7 @@ module _ (k : ℕ) (P : Process) (g : Within k P) where
 
   steps-after : {w : Run} {X T : Marked} (table : Outcomes) → X ≡ markedBy table P → Steps whole X w T → T ≡ markedBy (outcomesAfter table w) P
   steps-after table e still = e
-  steps-after table e (first {e = entry n s} r t) = steps-after (setOutcome table n s) (step-marks n s k (rw e at r) (marked-within table) ∙ mark-is table n s P) t
+  steps-after table e (first {e = entry n s} r t) = steps-after (setOutcome table n s) (step-marks n s (rw e at r) (marked-within table .distinct) ∙ mark-is table n s P) t
 
   reached : (w : Run) → Begins P w → Steps whole (fresh P) w (markedBy (after w) P)
   reached w (z, s, c) =
@@ -69,8 +69,8 @@ module _ (k : ℕ) (P : Process) (g : Within k P) where
       let (z, T′, s, t′, x) = R .go (reach-steps t (r-going (reach-fresh P))) in
       (z, s, R .from (reach-steps (join t t′) (r-going (reach-fresh P))) x)
 
-  shown : (n : ℕ) (s : Status) (w : Run) → LeafPermits n s P → ShowsAll n s (levelsOf k (after w) P) (markedBy (after w) P)
-  shown n s w p = shows n s k (after w) P g (fits n s P (distinct k P g) p)
+  shown : (n : ℕ) (s : Status) (w : Run) → LeafPermits n s P → ShowsAll n s (cellsOf k (after w) P) (markedBy (after w) P)
+  shown n s w p = shows n s k (after w) P g (fits n s P (g .distinct) p)
 
   module _ (w : Run) (b : Begins P w) where
     abbrev T : Marked
@@ -80,7 +80,7 @@ module _ (k : ℕ) (P : Process) (g : Within k P) where
     nexts n s = (to, from)
       where
         tells : LeafPermits n s P → Holds (toldNext k P w) n ↔ Goes n s whole T
-        tells p = next-iff n s k T (levelsOf k (after w) P) (shown n s w p) (marked-within (after w))
+        tells p = next-iff n s k T (cellsOf k (after w) P) (shown n s w p) (marked-within (after w))
 
         one : {X Y : Marked} → Steps whole X (entry n s ∷ []) Y → X ≡ T → Holds (toldNext k P w) n × LeafPermits n s P
         one (first r t) e =
@@ -98,7 +98,11 @@ module _ (k : ℕ) (P : Process) (g : Within k P) where
     ends-told s = (λ h. R .from (reach-steps (reached w b) (r-going (reach-fresh P))) (tells .0 h), λ c. let (X, t, x) = R .to c in tells .1 (rw (steps-after noneRun (fresh-is P) t) at x))
       where
         tells : (toldEnded k P w ≡ ending s) ↔ WholeEnds T s
-        tells = let (n, t, p) = a-leaf P (as-written k P g) in ended-iff n t k T (levelsOf k (after w) P) (shown n t w p) (marked-within (after w)) s
+        tells = let (n, t, p) = a-leaf P (g .written) in ended-iff n t k T (cellsOf k (after w) P) (shown n t w p) (marked-within (after w)) s
+
+  goes : (w : Run) → Begins P w → ((s : Status) × (toldEnded k P w ≡ ending s)) ⊎ ((n : ℕ) × Holds (toldNext k P w) n)
+  goes w ([], s, c) = inl (s, ends-told w ([], s, c) s .1 (rw append-nil at c))
+  goes w (entry n t ∷ z, s, c) = inr (n, nexts w (entry n t ∷ z, s, c) n t .0 (z, s, rw append-assoc c) .0)
 
   pub told : Beginnings k P
   told = record {
@@ -107,8 +111,9 @@ module _ (k : ℕ) (P : Process) (g : Within k P) where
     next = λ w b n s. nexts w b n s;
     ends = λ w b s. ends-told w b s;
     reaches = λ w b. (b .0, b .1, b .2, complete-length w (b .0) (b .2));
-    once = λ w b n. complete-once n w (b .0) (distinct k P g) (b .2);
+    goes-on = λ w b. goes w b;
+    once = λ w b n. complete-once n w (b .0) (g .distinct) (b .2);
   }
 
 pub beginnings : BeginningsTold
-beginnings depth P w d h = told depth P (within depth P w d h)
+beginnings depth P w d h = told depth P (record { written = w; distinct = d; depth = h })

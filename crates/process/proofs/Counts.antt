@@ -1,8 +1,8 @@
 -- A run and the undo that it leaves use up the leaves of the process: whatever number each leaf has, the sum over the run and over the
 -- leaves of the undo is at most the sum over the leaves of the process. So a run is no longer than there are leaves, and a leaf occurs
 -- at most once in it.
-use mathlib.Core.Path.{_≡_, refl, ap}
-use mathlib.Core.List.{List, [], _∷_, _++_}
+use mathlib.Core.Path.{_≡_, refl}
+use mathlib.Core.List.{[], _∷_, _++_}
 use mathlib.Core.Bool.{Bool, true, false}
 use mathlib.Core.Logic.{inl, inr}
 use Prim.Native.Nat.{ℕ, _+_, _≤_}
@@ -10,7 +10,7 @@ use native.Mathlib.Omega.{arith}
 use lib.Dec.{eqb, ltb}
 use lib.ListN.{length}
 use borrow.Author.Tests.{eqb-true, ltb-true, ltb-false}
-use Rattle.process.specs.Process.{Status, Form, Process, done, leaf, node, entry, Run}
+use Rattle.process.specs.Process.{Status, Process, done, leaf, node, entry, Run}
 use Rattle.process.specs.Figure2.{Interleaving, neither, from-left, from-right, Forward, f-done, f-leaf, f-sequence, f-sequence-fails, f-parallel, f-parallel-left, f-parallel-right, f-choice-left, f-choice-right, f-compensation, f-compensation-fails, f-handler, f-handler-fails, Complete, c-ok, c-fail}
 use Rattle.process.specs.Cells.{pick}
 use Rattle.process.specs.Beginnings.{HasLeaf, Distinct, sumOfLeaves, sumOfRun, leafCount, occurrences}

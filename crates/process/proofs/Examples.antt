@@ -1,15 +1,16 @@
 -- Worked examples: the report's Examples 1 and 2, and a plan with a compensation in an undo side.
 use mathlib.Core.Path.{_≡_, refl}
 use mathlib.Core.List.{List, [], _∷_, _++_}
-use mathlib.Core.Logic.{_⊎_, inl, inr, _↔_}
+use mathlib.Core.Logic.{_⊎_, inl, inr}
 use Prim.Native.Nat.{ℕ}
 use native.Mathlib.Omega.{arith}
 use Rattle.process.specs.Process.{Status, ok, fail, finishes, fails, either, sequence, compensation, Process, done, leaf, node, entry, Run}
 use Rattle.process.specs.Figure2.{Forward, f-done, f-leaf, f-sequence, f-sequence-fails, f-compensation, f-compensation-fails, Complete, c-ok, c-fail}
-use Rattle.process.specs.declared.cells.Ended.the-variants.{Open, Failed}
+use Rattle.process.specs.declared.cells.Ended.the-variants.{Open, Succeeded, Failed}
 use Rattle.process.specs.Cells.{toldEnded, toldNext}
+use Rattle.process.specs.TwoLevels.{leafTwo, nodeTwo, toldTwo}
 use Rattle.process.specs.Beginnings.{undoDepth, Beginnings}
-use Rattle.process.proofs.Reached.{not-both}
+use Rattle.process.proofs.Endings.{not-both}
 use Rattle.process.proofs.Beginnings.{beginnings}
 
 -- Example 1. SimpleOrder = Billing ; ProcessOrder, Billing = Charge ÷ Credit. Charge and ProcessOrder may fail, Credit may not.
@@ -98,7 +99,7 @@ executions-order charged-and-processed = (_, _, complete-order kept, refl)
 executions-order charged-and-credited = (_, _, complete-order credited, refl)
 executions-order nothing-left = (_, _, complete-order not-charged, refl)
 
--- What the cells tell of it, and the theorem at it.
+-- What the cells tell of it.
 order-start : (toldNext 1 simpleOrder [] ≡ 1) × (toldEnded 1 simpleOrder [] ≡ Open)
 order-start = (refl, refl)
 
@@ -111,6 +112,11 @@ order-undoes = (refl, refl)
 order-credited : (toldNext 1 simpleOrder (entry 0 ok ∷ entry 3 fail ∷ entry 1 ok ∷ []) ≡ 0) × (toldEnded 1 simpleOrder (entry 0 ok ∷ entry 3 fail ∷ entry 1 ok ∷ []) ≡ Failed)
 order-credited = (refl, refl)
 
+-- The same by the code's definitions, from the node numbers and forms of its plan file.
+order-code : toldTwo (nodeTwo 3 (nodeTwo 6 (leafTwo 0 Succeeded) (leafTwo 1 Open)) (leafTwo 3 Failed)) ≡ record { ended = Open; next = 2 }
+order-code = refl
+
+-- The theorem at it.
 order-told : Beginnings 1 simpleOrder
 order-told = beginnings 1 simpleOrder ((tt, tt), tt) ((tt, tt, λ n h i. omega arith), tt, λ n h i. apart h i) (omega arith)
   where

@@ -1,27 +1,25 @@
 -- The forward runs of a leaf and of the five forms, and so every process of any undo depth: by recursion on the depth, then on the
 -- process.
 use mathlib.Core.Path.{_≡_, refl, sym, _∙_, ap}
-use mathlib.Core.List.{List, [], _∷_, _++_, append-assoc}
-use mathlib.Core.Bool.{Bool, true, false}
-use mathlib.Core.Logic.{_⊎_, inl, inr}
+use mathlib.Core.List.{[], _++_, append-assoc}
+use mathlib.Core.Bool.{Bool, true, false, not}
+use mathlib.Core.Logic.{inl, inr}
 use Prim.Native.Nat.{ℕ, zero, suc}
 use Rattle.process.specs.Process.{Status, ok, fail, Kind, finishes, fails, either, Permits, Form, sequence, parallel, choice, compensation, handler, Process, done, leaf, node, Run}
-use Rattle.process.specs.Figure2.{both, Interleaving, Forward, f-leaf, f-sequence, f-sequence-fails, f-parallel, f-parallel-left, f-parallel-right, f-choice-left, f-choice-right, f-compensation, f-compensation-fails, f-handler, f-handler-fails, Complete, c-ok, c-fail}
+use Rattle.process.specs.Figure2.{both, Interleaving, Forward, f-leaf, f-sequence, f-sequence-fails, f-parallel, f-parallel-left, f-parallel-right, f-choice-left, f-choice-right, f-compensation, f-compensation-fails, f-handler, f-handler-fails, Complete, c-fail}
 use Rattle.process.specs.declared.cells.Ended.{Ended}
 use Rattle.process.specs.declared.cells.Ended.the-variants.{Open, Succeeded, Failed}
 use Rattle.process.specs.Cells.{pick, ending, sequenceEnded, parallelEnded, handlerEnded}
 use Rattle.process.specs.Beginnings.{AsWritten}
-use Rattle.process.proofs.Marked.{Marked, m-done, m-node, fresh, unmarked, hasBegun, endedAs, undo, WholeEnds, ends-ok, Mode, forward, whole, at-leaf, Steps, still, first, in-turn, Reached, r-waits, r-leaf, r-left, r-both, r-going, r-undoing}
-use Rattle.process.proofs.Alike.{interleave-nil, nil-interleave, interleave-nil-is, nil-interleave-is, alike, in-sequence, in-parallel, joined-stands}
-use Rattle.process.proofs.Undo.{Within, less, UndoWithin, as-written, joined-done}
-use Rattle.process.proofs.Reached.{not-open, not-failed, unmarked-fresh, fresh-begun, fresh-open, fresh-undo, reach-fresh, not-begun, interleave-append, interleaved, whole-failed}
+use Rattle.process.proofs.Endings.{not-open, ending-one}
+use Rattle.process.proofs.Marked.{Marked, m-done, m-node, fresh, unmarked, hasBegun, endedAs, in-sequence, in-parallel, undo, WholeEnds, ends-ok, Mode, forward, whole, at-leaf, Steps, still, first, in-turn, Reached, r-waits, r-leaf, r-left, r-both, r-going, r-undoing}
+use Rattle.process.proofs.Alike.{interleave-nil, nil-interleave, interleave-nil-is, nil-interleave-is, alike, joined-stands}
+use Rattle.process.proofs.Undo.{Within, left-within, right-within, UndoWithin, joined-done}
+use Rattle.process.proofs.Reached.{unmarked-fresh, fresh-begun, fresh-open, fresh-undo, reach-fresh, not-begun, interleave-append, interleaved, whole-failed}
 use Rattle.process.proofs.Whole.{join, joins, reach-steps, steps-left, steps-right, steps-both, steps-going, RunsTo, RanTo, CanEnd, ForwardRuns, WholeRuns, whole-runs, whole-done}
 
-pub ending-one : (s t : Status) → ending s ≡ ending t → s ≡ t
-ending-one ok ok h = refl
-ending-one ok fail h = not-failed refl h
-ending-one fail ok h = not-failed refl (sym h)
-ending-one fail fail h = refl
+waits : (Q : Process) → not (hasBegun (fresh Q)) ≡ true
+waits Q = ap not (fresh-begun Q)
 
 pub permitted : (k : Kind) → (s : Status) × Permits k s
 permitted finishes = (ok, refl)
@@ -80,8 +78,8 @@ module _ {P Q : Process} (wP : AsWritten P) (wQ : AsWritten Q) (FP : ForwardRuns
   compensation-runs = record { to = λ f. tos f; from = λ s r h. froms s r h; go = λ r. gos r }
     where
       tos : {p : Run} {s : Status} {P′ : Process} → Forward (node compensation P Q) p s P′ → RunsTo (node compensation P Q) p s P′
-      tos (f-compensation a) = let (A, r, h, u) = FP .to a in (m-node compensation A (fresh Q), steps-left tt r, h, rw h (Q, refl, alike))
-      tos (f-compensation-fails a) = let (A, r, h, u) = FP .to a in (m-node compensation A (fresh Q), steps-left tt r, h, rw h u)
+      tos (f-compensation a) = let (A, r, h, u) = FP .to a in (m-node compensation A (fresh Q), steps-left refl r, h, rw h (Q, refl, alike))
+      tos (f-compensation-fails a) = let (A, r, h, u) = FP .to a in (m-node compensation A (fresh Q), steps-left refl r, h, rw h u)
 
       by : {p : Run} {A : Marked} (s : Status) → Reached forward P p A → endedAs A ≡ ending s → RanTo (node compensation P Q) p s (m-node compensation A (fresh Q))
       by ok r h = let (P′, a, u) = FP .from ok r h in (Q, f-compensation a, rw h (Q, refl, alike))
@@ -92,7 +90,7 @@ module _ {P Q : Process} (wP : AsWritten P) (wQ : AsWritten Q) (FP : ForwardRuns
       froms s (r-both g r t m) h = absurd g
 
       gos : {p : Run} {T : Marked} → Reached forward (node compensation P Q) p T → CanEnd T
-      gos (r-left r) = let (z, A, s, t, h) = FP .go r in (z, _, s, steps-left tt t, h)
+      gos (r-left r) = let (z, A, s, t, h) = FP .go r in (z, _, s, steps-left refl t, h)
       gos (r-both g r t m) = absurd g
 
   module _ (FQ : ForwardRuns Q) where
@@ -103,8 +101,8 @@ module _ {P Q : Process} (wP : AsWritten P) (wQ : AsWritten Q) (FP : ForwardRuns
         tos (f-sequence a b e) =
             let (A, r, h, u) = FP .to a in
             let (B, t, i, v) = FQ .to b in
-            (m-node sequence A B, joins (steps-left (fresh-begun Q) r) (steps-right h t) e, rw h i, joined-stands in-sequence v u)
-        tos (f-sequence-fails a) = let (A, r, h, u) = FP .to a in (m-node sequence A (fresh Q), steps-left (fresh-begun Q) r, rw h, rw (fresh-undo Q wQ) u)
+            (m-node sequence A B, joins (steps-left (waits Q) r) (steps-right h t) e, rw h i, joined-stands in-sequence v u)
+        tos (f-sequence-fails a) = let (A, r, h, u) = FP .to a in (m-node sequence A (fresh Q), steps-left (waits Q) r, rw h, rw (fresh-undo Q wQ) u)
 
         left-alone : {A : Marked} {p : Run} (s : Status) → Reached forward P p A → (x : Ended) → endedAs A ≡ x → sequenceEnded x (endedAs (fresh Q)) ≡ ending s → RanTo (node sequence P Q) p s (m-node sequence A (fresh Q))
         left-alone s r Open e h = not-open s refl h
@@ -119,8 +117,8 @@ module _ {P Q : Process} (wP : AsWritten P) (wQ : AsWritten Q) (FP : ForwardRuns
             (node sequence Q′ P′, f-sequence a b e, joined-stands in-sequence v u)
 
         go-on : {A A′ : Marked} {z : Run} (s : Status) → Steps forward A z A′ → endedAs A′ ≡ ending s → CanEnd (m-node sequence A (fresh Q))
-        go-on ok r h = let (z, B, s, t, i) = FQ .go (reach-fresh Q) in (_, _, s, join (steps-left (fresh-begun Q) r) (steps-right h t), rw h i)
-        go-on fail r h = (_, _, fail, steps-left (fresh-begun Q) r, rw h)
+        go-on ok r h = let (z, B, s, t, i) = FQ .go (reach-fresh Q) in (_, _, s, join (steps-left (waits Q) r) (steps-right h t), rw h i)
+        go-on fail r h = (_, _, fail, steps-left (waits Q) r, rw h)
 
         gos : {p : Run} {T : Marked} → Reached forward (node sequence P Q) p T → CanEnd T
         gos (r-left r) = let (z, A, s, t, h) = FP .go r in go-on s t h
@@ -169,7 +167,7 @@ module _ {P Q : Process} (wP : AsWritten P) (wQ : AsWritten Q) (FP : ForwardRuns
     choice-runs = record { to = λ f. tos f; from = λ s r h. froms s r h; go = λ r. gos r }
       where
         tos : {p : Run} {s : Status} {P′ : Process} → Forward (node choice P Q) p s P′ → RunsTo (node choice P Q) p s P′
-        tos (f-choice-left a) = let (A, r, h, u) = FP .to a in (_, steps-left (fresh-begun Q) r, rw (fresh-begun Q) h, rw (fresh-undo Q wQ) u)
+        tos (f-choice-left a) = let (A, r, h, u) = FP .to a in (_, steps-left (waits Q) r, rw (fresh-begun Q) h, rw (fresh-undo Q wQ) u)
         tos (f-choice-right {t = t} b) = let (B, r, h, u) = FQ .to b in (_, steps-right (fresh-begun P) r, rw (ended-begun t wQ (reach-steps r (reach-fresh Q)) h) h, rw (fresh-undo P wP, joined-done sequence (undo B)) u)
 
         by : {q : Run} (s : Status) {B : Marked} → Reached forward Q q B → (b : Bool) → pick b (endedAs B) (endedAs (fresh P)) ≡ ending s → RanTo (node choice P Q) q s (m-node choice (fresh P) B)
@@ -181,7 +179,7 @@ module _ {P Q : Process} (wP : AsWritten P) (wQ : AsWritten Q) (FP : ForwardRuns
         froms s (r-both {p = p} {q = q} {B = B} g r t (in-turn m)) h = let z = not-begun r g in rw (← m, z .0, z .1) (by s t (hasBegun B) (rw (z .1) at h))
 
         gos : {p : Run} {T : Marked} → Reached forward (node choice P Q) p T → CanEnd T
-        gos (r-left r) = let (z, A, s, t, h) = FP .go r in (z, _, s, steps-left (fresh-begun Q) t, rw (fresh-begun Q) h)
+        gos (r-left r) = let (z, A, s, t, h) = FP .go r in (z, _, s, steps-left (waits Q) t, rw (fresh-begun Q) h)
         gos (r-both g r t m) = let (z, B, s, t′, h) = FQ .go t in (z, _, s, steps-right g t′, rw (ended-begun s wQ (reach-steps t′ t) h) h)
 
     module _ (WP : WholeRuns P) where
@@ -192,11 +190,11 @@ module _ {P Q : Process} (wP : AsWritten P) (wQ : AsWritten Q) (FP : ForwardRuns
       handler-runs = record { to = λ f. tos f; from = λ s r h. froms s r h; go = λ r. gos r }
         where
           tos : {p : Run} {s : Status} {P′ : Process} → Forward (node handler P Q) p s P′ → RunsTo (node handler P Q) p s P′
-          tos (f-handler a) = let (A, r, h, u) = FP .to a in (_, steps-left (fresh-begun Q) (steps-going (reach-fresh P) r), rw h, rw h u)
+          tos (f-handler a) = let (A, r, h, u) = FP .to a in (_, steps-left (waits Q) (steps-going (reach-fresh P) r), rw h, rw h u)
           tos (f-handler-fails {p = p} {p′ = p′} {q = q} a c b e) =
               let (A, r, x) = WP .to (c-fail a c refl) in
               let (B, r′, h, u) = FQ .to b in
-              (m-node handler A B, joins (steps-left (fresh-begun Q) r) (steps-right x r′) (append-assoc p p′ q ∙ e), rw (whole-failed x) h, rw (whole-failed x) u)
+              (m-node handler A B, joins (steps-left (waits Q) r) (steps-right x r′) (append-assoc p p′ q ∙ e), rw (whole-failed x) h, rw (whole-failed x) u)
 
           by : {p : Run} (s : Status) {A : Marked} → Reached forward P p A → (x : Ended) → endedAs A ≡ x → handlerEnded x (endedAs (fresh Q)) ≡ ending s → RanTo (node handler P Q) p s (m-node handler A (fresh Q))
           by s r Open e h = not-open s refl h
@@ -215,22 +213,25 @@ module _ {P Q : Process} (wP : AsWritten P) (wQ : AsWritten Q) (FP : ForwardRuns
           go-right x t = let (z, B, s, t′, h) = FQ .go t in (z, _, s, steps-right x t′, rw (whole-failed x) h)
 
           go-on : {A A′ : Marked} {z : Run} {s : Status} → Steps whole A z A′ → WholeEnds A′ s → CanEnd (m-node handler A (fresh Q))
-          go-on {s = ok} r (ends-ok h) = (_, _, ok, steps-left (fresh-begun Q) r, rw h)
-          go-on {s = fail} r x = let (z, T, s, t, h) = go-right x (reach-fresh Q) in (_, T, s, join (steps-left (fresh-begun Q) r) t, h)
+          go-on {s = ok} r (ends-ok h) = (_, _, ok, steps-left (waits Q) r, rw h)
+          go-on {s = fail} r x = let (z, T, s, t, h) = go-right x (reach-fresh Q) in (_, T, s, join (steps-left (waits Q) r) t, h)
 
           gos : {p : Run} {T : Marked} → Reached forward (node handler P Q) p T → CanEnd T
           gos (r-left r) = let (z, A, s, t, x) = WP .go r in go-on t x
           gos (r-both x r t e) = go-right x t
 
+node-runs : (f : Form) {P Q : Process} → AsWritten P → AsWritten Q → ForwardRuns P → ForwardRuns Q → (ForwardRuns P → WholeRuns P) → ForwardRuns (node f P Q)
+node-runs sequence wP wQ FP FQ W = sequence-runs wP wQ FP FQ
+node-runs parallel wP wQ FP FQ W = parallel-runs wP wQ FP FQ
+node-runs choice wP wQ FP FQ W = choice-runs wP wQ FP FQ
+node-runs compensation wP wQ FP FQ W = compensation-runs wP wQ FP
+node-runs handler wP wQ FP FQ W = handler-runs wP wQ FP FQ (W FP)
+
 module _ (k : ℕ) (less-deep : (N : Process) → UndoWithin k (fresh N) → WholeRuns N) where
   forward-runs : (P : Process) → Within k P → ForwardRuns P
-  forward-runs done g = absurd g
+  forward-runs done g = absurd (g .written)
   forward-runs (leaf n kind) g = leaf-runs n kind
-  forward-runs (node sequence P Q) g = sequence-runs (as-written k P (g .0)) (as-written k Q (g .1)) (forward-runs P (g .0)) (forward-runs Q (g .1))
-  forward-runs (node parallel P Q) g = parallel-runs (as-written k P (g .0)) (as-written k Q (g .1)) (forward-runs P (g .0)) (forward-runs Q (g .1))
-  forward-runs (node choice P Q) g = choice-runs (as-written k P (g .0)) (as-written k Q (g .1)) (forward-runs P (g .0)) (forward-runs Q (g .1))
-  forward-runs (node compensation P Q) g = compensation-runs (as-written k P (g .0)) (as-written (less compensation k) Q (g .1)) (forward-runs P (g .0))
-  forward-runs (node handler P Q) g = let F = forward-runs P (g .0) in handler-runs (as-written k P (g .0)) (as-written k Q (g .1)) F (forward-runs Q (g .1)) (whole-runs k P (g .0) F less-deep)
+  forward-runs (node f P Q) g = node-runs f (g .written .0) (g .written .1) (forward-runs P (left-within g)) (forward-runs Q (right-within g)) (λ F. whole-runs k P (left-within g) F less-deep)
 
 fresh-done : (N : Process) → fresh N ≡ m-done → WholeRuns N
 fresh-done N e = let d : done ≡ N = ap unmarked (sym e) ∙ unmarked-fresh N in rw (← d) whole-done

@@ -2,14 +2,14 @@
 use mathlib.Core.Path.{_≡_, refl, sym, _∙_, ap}
 use mathlib.Core.Bool.{Bool, true, false}
 use mathlib.Core.Logic.{_⊎_, inl, inr}
-use Prim.Native.Nat.{ℕ, zero, suc, _+_, _-_, _*_, _/_, _%_, _^_, _<_, max}
+use Prim.Native.Nat.{ℕ, suc, _+_, _-_, _*_, _/_, _%_, _^_, _<_, max}
 use native.Mathlib.Nat.{one-mul, mod-eq-of-lt, zero-div, div-eq-of-lt, pow-suc, mul-mod-left}
 use native.Mathlib.Omega.{arith}
 use lib.Dec.{eqb, ltb}
 use lib.Pow.{pow-lt, pow-add, shl-shr}
 use lib.Bits.{bitOr, or-shr, or-step}
 use borrow.Author.Tests.{eqb-true, ltb-true, ltb-false, eqb-false}
-use Rattle.process.specs.Cells.{pick, Holds, only, given}
+use Rattle.process.specs.Cells.{Holds, only, given}
 
 or-odd : (a b : ℕ) → bitOr a b % 2 ≡ max (a % 2) (b % 2)
 or-odd a b = omega (arith, or-step a b)

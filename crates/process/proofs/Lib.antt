@@ -1,3 +1,4 @@
+pub mod Endings
 pub mod Marked
 pub mod Undo
 pub mod Alike

@@ -1,7 +1,7 @@
 -- The marked tree: a process with the outcome of each leaf. From it: has it begun, how has it ended, its undo with the marks that
 -- the undo has, one step of a run, and the trees that a run reaches. The cells are read off it (Shown), the runs too (Forms, Whole).
 use mathlib.Core.Path.{_≡_}
-use mathlib.Core.List.{List, [], _∷_, _++_}
+use mathlib.Core.List.{[], _∷_, _++_}
 use mathlib.Core.Bool.{Bool, true, false}
 use Prim.Native.Nat.{ℕ}
 use lib.Dec.{eqb}
@@ -9,7 +9,8 @@ use Rattle.process.specs.Process.{Status, ok, fail, Kind, Permits, Form,
 use Rattle.process.specs.Figure2.{Interleaving}
 use Rattle.process.specs.declared.cells.Ended.{Ended}
 use Rattle.process.specs.declared.cells.Ended.the-variants.{Open, Succeeded, Failed}
-use Rattle.process.specs.Cells.{pick, ending, isSucceeded, nodeBegun, nodeEnded}
+use Rattle.process.proofs.Endings.{hasRun}
+use Rattle.process.specs.Cells.{pick, ending, isSucceeded, nodeBegun, nodeEnded, leftMay}
 
 pub data Marked : Type 0 where
   m-done : Marked
@@ -27,11 +28,6 @@ unmarked m-done = done
 unmarked (m-leaf n k o) = leaf n k
 unmarked (m-node f A B) = node f (unmarked A) (unmarked B)
 
-abbrev pub hasRun : Ended → Bool
-hasRun Open = false
-hasRun Succeeded = true
-hasRun Failed = true
-
 abbrev pub hasBegun : Marked → Bool
 hasBegun m-done = false
 hasBegun (m-leaf n k o) = hasRun o
@@ -47,6 +43,11 @@ abbrev pub isDone : Marked → Bool
 isDone m-done = true
 isDone (m-leaf n k o) = false
 isDone (m-node f A B) = false
+
+-- The forms that undos are joined by.
+pub data Pairing : Form → Type 0 where
+  in-sequence : Pairing sequence
+  in-parallel : Pairing parallel
 
 -- Two undos as one: an empty one falls away.
 abbrev pub joined : Form → Marked → Marked → Marked
@@ -78,11 +79,7 @@ mark n s (m-node f A B) = m-node f (mark n s A) (mark n s B)
 
 -- When the left side may go on, by the right; when the right side may, by the left.
 abbrev pub LeftMay : Form → Marked → Type 0
-LeftMay sequence B = hasBegun B ≡ false
-LeftMay parallel B = Unit {0}
-LeftMay choice B = hasBegun B ≡ false
-LeftMay compensation B = Unit {0}
-LeftMay handler B = hasBegun B ≡ false
+LeftMay f B = leftMay f (hasBegun B) ≡ true
 
 abbrev pub RightMay : Form → Marked → Type 0
 RightMay sequence A = endedAs A ≡ Succeeded

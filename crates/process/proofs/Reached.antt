@@ -1,41 +1,19 @@
 -- What a run reaches. The start; a tree that has not begun is as at the start; the undo of a tree that goes forward has not begun; and
 -- a step from a reached tree reaches a tree by one entry more.
 use mathlib.Core.Path.{_≡_, refl, sym, _∙_, ap, ap₂}
-use mathlib.Core.List.{List, [], _∷_, _++_, append-assoc, append-nil, cons≢nil}
-use mathlib.Core.Bool.{Bool, true, false, _||_, true≢false}
+use mathlib.Core.List.{[], _∷_, _++_, append-assoc, append-nil, cons≢nil}
+use mathlib.Core.Bool.{Bool, true, false, not}
 use mathlib.Core.Logic.{_⊎_, inl, inr}
-use Prim.Native.Nat.{ℕ}
-use Rattle.process.specs.Process.{Status, ok, fail, Form, sequence, parallel, choice, compensation, handler, Process, done, leaf, node, Entry, entry, Run}
+use Rattle.process.specs.Process.{fail, Form, sequence, parallel, choice, compensation, handler, Process, done, leaf, node, Entry, entry, Run}
 use Rattle.process.specs.Figure2.{Interleaving, neither, from-left, from-right}
 use Rattle.process.specs.declared.cells.Ended.{Ended}
 use Rattle.process.specs.declared.cells.Ended.the-variants.{Open, Succeeded, Failed}
-use Rattle.process.specs.Cells.{pick, ending, isSucceeded, isFailed, nodeBegun, nodeEnded}
+use Rattle.process.specs.Cells.{isSucceeded, nodeBegun, nodeEnded}
 use Rattle.process.specs.Beginnings.{AsWritten}
-use Rattle.process.proofs.Marked.{Marked, m-done, m-leaf, m-node, fresh, unmarked, hasRun, hasBegun, endedAs, joined, undo, nodeUndone, WholeEnds, ends-ok, ends-fail, mark, RightMay, Mode, forward, whole, leftMode, Step, at-leaf, on-left, on-right, going, undoing, Merged, in-turn, mixed, Reached, r-done, r-waits, r-leaf, r-left, r-both, r-going, r-undoing}
+use Rattle.process.proofs.Endings.{hasRun, ending-run, not-both, of-not, not-open, not-failed, or-true, or-false}
+use Rattle.process.proofs.Marked.{Marked, m-done, m-leaf, m-node, fresh, unmarked, hasBegun, endedAs, joined, undo, nodeUndone, WholeEnds, ends-fail, mark, RightMay, Mode, forward, whole, leftMode, Step, at-leaf, on-left, on-right, going, undoing, Merged, in-turn, mixed, Reached, r-done, r-waits, r-leaf, r-left, r-both, r-going, r-undoing}
 use Rattle.process.proofs.Alike.{nil-interleave, interleave-nil-is}
 use Rattle.process.proofs.Undo.{either-way, joined-way, unmarked-mark}
-
--- Statuses and tests that exclude each other.
-pub not-both : {A : Type 0} {test : Bool} → test ≡ true → test ≡ false → A
-not-both p q = absurd (true≢false (sym p ∙ q))
-
-pub ending-run : (s : Status) → hasRun (ending s) ≡ true
-ending-run ok = refl
-ending-run fail = refl
-
-pub not-open : {A : Type 0} {x : Ended} (s : Status) → x ≡ Open → x ≡ ending s → A
-not-open s p q = not-both (ap hasRun q ∙ ending-run s) (ap hasRun p)
-
-pub not-failed : {A : Type 0} {x : Ended} → x ≡ Succeeded → x ≡ Failed → A
-not-failed p q = not-both (ap isSucceeded p) (ap isSucceeded q)
-
-or-true : (a : Bool) → (a || true) ≡ true
-or-true true = refl
-or-true false = refl
-
-or-false : (a b : Bool) → (a || b) ≡ false → (a ≡ false) × (b ≡ false)
-or-false true b h = (h, cc)
-or-false false b h = (refl, h)
 
 pub unmarked-fresh : (P : Process) → unmarked (fresh P) ≡ P
 unmarked-fresh done = refl
@@ -142,7 +120,7 @@ abbrev Fresh : Marked → Type 0
 Fresh U = U ≡ fresh (unmarked U)
 
 joined-fresh : (f : Form) (U W : Marked) → Fresh U → Fresh W → Fresh (joined f U W)
-joined-fresh f U W h i = joined-way Fresh f U W h i (ap₂ (m-node f) h i)
+joined-fresh f U W h i = joined-way Fresh f U W h i (λ u w. ap₂ (m-node f) h i)
 
 fresh-fresh : (P : Process) → Fresh (fresh P)
 fresh-fresh P = rw (unmarked-fresh P)
@@ -221,8 +199,8 @@ merged-more e (in-turn {p = p} {q = q} m) = in-turn (more p q e m)
 merged-more e (mixed m) = mixed (more-right e m)
 
 -- The right side has not begun: the left goes on as if it had run alone.
-left-again : {f : Form} {P Q : Process} (p : Run) {q r : Run} {A B : Marked} (e : Entry) → Reached forward Q q B → hasBegun B ≡ false → p ++ q ≡ r → Reached (leftMode f) P (p ++ (e ∷ [])) A → Reached forward (node f P Q) (r ++ (e ∷ [])) (m-node f A B)
-left-again p e t h m r = let z = not-begun t h in rw (← m, z .0, append-nil, z .1) (r-left r)
+left-again : {f : Form} {P Q : Process} (p : Run) {q r : Run} {A B : Marked} (e : Entry) → Reached forward Q q B → not (hasBegun B) ≡ true → p ++ q ≡ r → Reached (leftMode f) P (p ++ (e ∷ [])) A → Reached forward (node f P Q) (r ++ (e ∷ [])) (m-node f A B)
+left-again p e t h m r = let z = not-begun t (of-not h) in rw (← m, z .0, append-nil, z .1) (r-left r)
 
 pub reach-step : {m : Mode} {P : Process} {w : Run} {T T′ : Marked} {e : Entry} → Step m T e T′ → Reached m P w T → Reached m P (w ++ (e ∷ [])) T′
 reach-step (at-leaf m) r-waits = r-leaf m refl

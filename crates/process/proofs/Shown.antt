@@ -1,35 +1,18 @@
 -- The cells show the marked tree. At each level the cell says whether the tree is empty, has begun, how it has ended, and holds a leaf
 -- as next exactly where the tree has a step at that leaf. One leaf and one status that the leaf permits are fixed throughout.
 use mathlib.Core.Path.{_≡_, refl, sym, _∙_, ap}
-use mathlib.Core.Bool.{Bool, true, false, not, true≢false}
-use mathlib.Core.Logic.{_⊎_, inl, inr, _↔_}
+use mathlib.Core.Bool.{Bool, true, false, not}
+use mathlib.Core.Logic.{inl, inr, _↔_}
 use Prim.Native.Nat.{ℕ, zero, suc}
 use Rattle.process.specs.Process.{Status, ok, fail, Kind, Permits, Form, sequence, parallel, choice, compensation, handler, Process, done, leaf, node, entry}
 use Rattle.process.specs.declared.cells.Ended.{Ended}
 use Rattle.process.specs.declared.cells.Ended.the-variants.{Open, Succeeded, Failed}
 use Rattle.process.specs.declared.cells.Cell.{Cell}
-use Rattle.process.specs.Cells.{pick, ending, isSucceeded, isFailed, Outcomes, Holds, given, emptyCell, leafCell, leftMay, rightMay, nodeCell, joinCell, Levels, undoLevels, thenUndo, wholeEnded, wholeNext, leftNext, inTurn, nodeUndo, leafLevels, levelsOf}
-use Rattle.process.proofs.Marked.{Marked, m-done, m-leaf, m-node, unmarked, hasBegun, endedAs, isDone, joined, undo, nodeUndone, WholeEnds, ends-ok, ends-fail, MarksUndo, LeftMay, RightMay, Mode, forward, whole, leftMode, Step, at-leaf, on-left, on-right, going, undoing}
-use Rattle.process.proofs.Alike.{Pairing, in-sequence, in-parallel}
-use Rattle.process.proofs.Undo.{Within, less, right-deeper, UndoWithin, undo-again, joined-done, undo-step, step-leaf}
-use Rattle.process.proofs.Reached.{not-both, not-open, not-failed}
+use Rattle.process.specs.Cells.{pick, ending, isSucceeded, isFailed, Outcomes, Holds, given, emptyCell, leafCell, leftMay, rightMay, nodeCell, joinCell, Levels, undoLevels, thenUndo, wholeEnded, wholeNext, leftNext, inTurn, nodeUndo, leafLevels, cellsOf}
+use Rattle.process.proofs.Endings.{not-both, of-not, not-open, ending-one, of-succeeded, of-failed}
+use Rattle.process.proofs.Marked.{Marked, m-done, m-leaf, m-node, unmarked, hasBegun, endedAs, isDone, Pairing, in-sequence, in-parallel, joined, undo, nodeUndone, WholeEnds, ends-ok, ends-fail, MarksUndo, RightMay, Mode, forward, whole, leftMode, Step, at-leaf, on-left, on-right, going, undoing}
+use Rattle.process.proofs.Undo.{Within, left-within, right-within, UndoWithin, undo-again, joined-done, undo-step, step-leaf}
 use Rattle.process.proofs.Leaves.{holds-none, union-holds, left-holds, right-holds, only-holds, holds-only}
-use Rattle.process.proofs.Forms.{ending-one}
-
--- Tests and what they say.
-of-not : (b : Bool) → not b ≡ true → b ≡ false
-of-not true e = sym e
-of-not false e = refl
-
-of-succeeded : (x : Ended) → isSucceeded x ≡ true → x ≡ Succeeded
-of-succeeded Open e = not-both e refl
-of-succeeded Succeeded e = refl
-of-succeeded Failed e = not-both e refl
-
-of-failed : (x : Ended) → isFailed x ≡ true → x ≡ Failed
-of-failed Open e = not-both e refl
-of-failed Succeeded e = not-both e refl
-of-failed Failed e = refl
 
 -- The undo of two joined trees.
 undo-joined : {f : Form} → Pairing f → (U W : Marked) → undo (joined f U W) ≡ nodeUndone f (endedAs U) W (undo U) (undo W)
@@ -82,17 +65,10 @@ module _ (n : ℕ) (s : Status) where
   ShowsAll a T = (i : ℕ) → Shows (a i) (level i T)
 
   -- A composite.
-  left-iff : (f : Form) {y : Cell} {B : Marked} → Shows y B → (leftMay f (y .begun) ≡ true) ↔ LeftMay f B
-  left-iff sequence {y} S = (λ e. sym (S .same-begun) ∙ of-not (y .begun) e, λ h. ap not (S .same-begun ∙ h))
-  left-iff parallel S = (λ e. tt, λ h. refl)
-  left-iff choice {y} S = (λ e. sym (S .same-begun) ∙ of-not (y .begun) e, λ h. ap not (S .same-begun ∙ h))
-  left-iff compensation S = (λ e. tt, λ h. refl)
-  left-iff handler {y} S = (λ e. sym (S .same-begun) ∙ of-not (y .begun) e, λ h. ap not (S .same-begun ∙ h))
-
   right-iff : (f : Form) {x : Cell} {x-over : Bool} {A : Marked} → Shows x A → (x-over ≡ true) ↔ WholeEnds A fail → (rightMay f (x .ended) (x .begun) x-over ≡ true) ↔ RightMay f A
   right-iff sequence {x} S R = (λ e. sym (S .same-ended) ∙ of-succeeded (x .ended) e, λ h. ap isSucceeded (S .same-ended ∙ h))
   right-iff parallel S R = (λ e. tt, λ h. refl)
-  right-iff choice {x} S R = (λ e. sym (S .same-begun) ∙ of-not (x .begun) e, λ h. ap not (S .same-begun ∙ h))
+  right-iff choice {x} S R = (λ e. sym (S .same-begun) ∙ of-not e, λ h. ap not (S .same-begun ∙ h))
   right-iff compensation S R = (λ e. not-both e refl, λ h. absurd h)
   right-iff handler S R = R
 
@@ -103,14 +79,14 @@ module _ (n : ℕ) (s : Status) where
     same-ended = rw (S .same-begun, Z .same-begun, S .same-ended, Z .same-ended);
     same-next = (
       λ h. union-holds n (leftMay f (y .begun)) (rightMay f (x .ended) (x .begun) x-over) x-next (y .next) h
-          (λ g i. (_, on-left (left-iff f Z .0 g) (L .0 i .1)))
+          (λ g i. (_, on-left (rw (Z .same-begun) at g) (L .0 i .1)))
           (λ g i. (_, on-right (R .0 g) (Z .same-next .0 i .1))),
       λ g. held (g .1),
     );
   }
     where
       held : {T : Marked} → Step forward (m-node f A B) (entry n s) T → Holds (nodeCell f x y x-next x-over .next) n
-      held (on-left h t) = left-holds n (leftMay f (y .begun)) x-next (given (rightMay f (x .ended) (x .begun) x-over) (y .next)) (left-iff f Z .1 h) (L .1 (_, t))
+      held (on-left h t) = left-holds n (leftMay f (y .begun)) x-next (given (rightMay f (x .ended) (x .begun) x-over) (y .next)) (rw (Z .same-begun) h) (L .1 (_, t))
       held (on-right h t) = right-holds n (given (leftMay f (y .begun)) x-next) (rightMay f (x .ended) (x .begun) x-over) (y .next) (R .1 h) (Z .same-next .1 (_, t))
 
   -- Joined undos.
@@ -184,7 +160,7 @@ module _ (n : ℕ) (s : Status) where
   next-then : (k : ℕ) (T : Marked) (a : Levels) → ShowsAll a T → UndoWithin (suc (suc k)) T → Holds (wholeNext k (undoLevels a)) n ↔ Goes whole (undo T) → Holds (wholeNext (suc k) a) n ↔ Goes whole T
   next-then k T a S u I = (
     λ h. union-holds n (not (a (suc zero) .begun)) (isFailed (a zero .ended)) (a zero .next) (wholeNext k (undoLevels a)) h
-        (λ e i. (_, going (sym (S (suc zero) .same-begun) ∙ of-not (a (suc zero) .begun) e) (S zero .same-next .0 i .1)))
+        (λ e i. (_, going (sym (S (suc zero) .same-begun) ∙ of-not e) (S zero .same-next .0 i .1)))
         (λ e i. let z = I .0 i in (_, undoing (sym (S zero .same-ended) ∙ of-failed (a zero .ended) e) (z .1) (by u (z .1)))),
     λ z. held (z .1),
   )
@@ -226,14 +202,14 @@ module _ (n : ℕ) (s : Status) where
   shows-leaf m k o p (suc i) = shows-done i
 
   -- The fold shows the tree at every level.
-  pub shows : (k : ℕ) (table : Outcomes) (P : Process) → Within k P → Fits n s P → ShowsAll (levelsOf k table P) (markedBy table P)
-  shows k table done g p i = absurd g
+  pub shows : (k : ℕ) (table : Outcomes) (P : Process) → Within k P → Fits n s P → ShowsAll (cellsOf k table P) (markedBy table P)
+  shows k table done g p i = absurd (g .written)
   shows k table (leaf m kind) g p i = shows-leaf m kind (table m) p i
   shows k table (node f P Q) g p zero =
-      let S = shows k table P (g .0) (p .0) in
+      let S = shows k table P (left-within g) (p .0) in
       let A = markedBy table P in
-      let w : Within k (unmarked A) = rw (unmarked-by table P) (g .0) in
-      let a = levelsOf k table P in
-      shows-node f (isFailed (wholeEnded k a)) (leftNext f (a zero .next) (wholeNext k a)) (S zero) (shows k table Q (right-deeper f k Q (g .1)) (p .1) zero) (left-next-iff k f A a S w)
+      let w : Within k (unmarked A) = rw (unmarked-by table P) (left-within g) in
+      let a = cellsOf k table P in
+      shows-node f (isFailed (wholeEnded k a)) (leftNext f (a zero .next) (wholeNext k a)) (S zero) (shows k table Q (right-within g) (p .1) zero) (left-next-iff k f A a S w)
       (right-iff f (S zero) (λ e. ended-iff k A a S w fail .0 (of-failed (wholeEnded k a) e), λ x. ap isFailed (ended-iff k A a S w fail .1 x)))
-  shows k table (node f P Q) g p (suc i) = shows-undo f (markedBy table P) (markedBy table Q) (levelsOf k table P) (levelsOf k table Q) (shows k table P (g .0) (p .0)) (shows k table Q (right-deeper f k Q (g .1)) (p .1)) i
+  shows k table (node f P Q) g p (suc i) = shows-undo f (markedBy table P) (markedBy table Q) (cellsOf k table P) (cellsOf k table Q) (shows k table P (left-within g) (p .0)) (shows k table Q (right-within g) (p .1)) i

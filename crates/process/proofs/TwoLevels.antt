@@ -1,8 +1,10 @@
 -- The law of specs/TwoLevels: a composite at levels 0 and 1 reads only levels 0 and 1 of its sides.
-use mathlib.Core.Path.{_≡_, refl, sym}
+use mathlib.Core.Path.{_≡_, refl}
+use mathlib.Core.List.{[], _∷_, _++_}
+use Prim.Native.Nat.{ℕ}
 use borrow.Author.Tests.{lt-ltb}
-use Rattle.process.specs.Process.{Form, sequence, parallel, choice, compensation, handler}
-use Rattle.process.specs.Cells.{Levels, nodeLevels, levelsOf}
+use Rattle.process.specs.Process.{Status, Form, sequence, parallel, choice, compensation, handler, entry, Run}
+use Rattle.process.specs.Cells.{Outcomes, setOutcome, outcomesAfter, Levels, nodeLevels, cellsOf}
 use Rattle.process.specs.TwoLevels.{two, numberForm, formTwo, TwoLevelsFold}
 
 two-node : (f : Form) (a b : Levels) → formTwo f (two a) (two b) ≡ two (nodeLevels 1 f a b)
@@ -12,9 +14,14 @@ two-node choice a b = refl
 two-node compensation a b = refl
 two-node handler a b = refl
 
+one-more : (table : Outcomes) (w : Run) (n : ℕ) (s : Status) → outcomesAfter table (w ++ (entry n s ∷ [])) ≡ setOutcome (outcomesAfter table w) n s
+one-more table [] n s = refl
+one-more table (entry m t ∷ w) n s = one-more (setOutcome table m t) w n s
+
 pub two-levels : TwoLevelsFold
 two-levels = record {
   at-leaf = λ table n k h. rw (lt-ltb n 64 h);
-  at-node = λ table number P Q. two-node (numberForm number) (levelsOf 1 table P) (levelsOf 1 table Q);
+  at-node = λ table number P Q. two-node (numberForm number) (cellsOf 1 table P) (cellsOf 1 table Q);
+  at-entry = λ table w n s. one-more table w n s;
   at-root = λ w P. refl;
 }

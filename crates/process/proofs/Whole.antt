@@ -2,16 +2,17 @@
 -- a reached tree that has ended was reached by a run, and each reached tree can be brought to an end. What holds of the process going
 -- forward, and of every less deep undo, holds of the process run with its undo.
 use mathlib.Core.Path.{_≡_, refl, sym, _∙_, ap}
-use mathlib.Core.List.{List, [], _∷_, _++_, append-assoc, append-nil}
+use mathlib.Core.List.{[], _∷_, _++_, append-assoc, append-nil}
 use Prim.Native.Nat.{ℕ}
 use Rattle.process.specs.Process.{Status, ok, fail, Form, parallel, Process, done, entry, Run}
 use Rattle.process.specs.Figure2.{Interleaving, neither, from-left, from-right, Forward, f-done, Complete, c-ok, c-fail}
-use Rattle.process.specs.declared.cells.Ended.the-variants.{Succeeded, Failed}
+use Rattle.process.specs.declared.cells.Ended.the-variants.{Failed}
 use Rattle.process.specs.Cells.{ending}
-use Rattle.process.proofs.Marked.{Marked, m-done, m-node, fresh, unmarked, endedAs, undo, WholeEnds, ends-ok, ends-fail, mark, MarksUndo, LeftMay, RightMay, Mode, forward, whole, leftMode, Step, on-left, on-right, going, undoing, Steps, still, first, Reached, r-done, r-going, r-undoing}
+use Rattle.process.proofs.Endings.{not-failed}
+use Rattle.process.proofs.Marked.{Marked, m-done, m-node, fresh, unmarked, endedAs, undo, WholeEnds, ends-ok, ends-fail, mark, LeftMay, RightMay, Mode, forward, whole, leftMode, on-left, on-right, going, undoing, Steps, still, first, Reached, r-done, r-going, r-undoing}
 use Rattle.process.proofs.Alike.{Stands-for, back, alike-complete}
 use Rattle.process.proofs.Undo.{Within, UndoWithin, undo-within, undo-step, unmarked-mark}
-use Rattle.process.proofs.Reached.{not-failed, unmarked-fresh, reach-fresh, undo-not-begun, reached-process, reach-step}
+use Rattle.process.proofs.Reached.{unmarked-fresh, reach-fresh, undo-not-begun, reached-process, reach-step}
 
 -- Steps, put together and lifted to a composite.
 module _ {m : Mode} where
@@ -40,7 +41,7 @@ steps-right h (first s r) = first (on-right h s) (steps-right h r)
 
 pub steps-both : {p q r : Run} {A A′ B B′ : Marked} → Interleaving p q r → Steps forward A p A′ → Steps forward B q B′ → Steps forward (m-node parallel A B) r (m-node parallel A′ B′)
 steps-both neither still still = still
-steps-both (from-left i) (first s a) b = first (on-left tt s) (steps-both i a b)
+steps-both (from-left i) (first s a) b = first (on-left refl s) (steps-both i a b)
 steps-both (from-right i) a (first s b) = first (on-right tt s) (steps-both i a b)
 
 pub steps-going : {P : Process} {w z : Run} {T T′ : Marked} → Reached forward P w T → Steps forward T z T′ → Steps whole T z T′

@@ -1,7 +1,7 @@
 -- The theorem under the runner: after a list of entries that begins a run of a plan, the cells tell exactly the entries that may
 -- follow, and exactly how the run may end here. It holds for undos of any depth. `beginnings` in proofs/ proves it.
 use mathlib.Core.Path.{_≡_}
-use mathlib.Core.List.{List, [], _∷_, _++_}
+use mathlib.Core.List.{[], _∷_, _++_}
 use mathlib.Core.Logic.{_⊎_, _↔_}
 use Prim.Native.Nat.{ℕ, zero, suc, _+_, _≤_, max}
 use lib.Dec.{eqb}
@@ -85,7 +85,9 @@ pub record Beginnings (depth : ℕ) (P : Process) : Type 0 where
   pub ends : (w : Run) → Begins P w → (s : Status) → (toldEnded depth P w ≡ ending s) ↔ Complete P w s
   -- from each beginning an end is reached, with at most the leaves that have not run
   pub reaches : (w : Run) → Begins P w → (z : Run) × (s : Status) × Complete P (w ++ z) s × (length w + length z ≤ leafCount P)
-  -- "a leaf occurs at most once in a run"
+  -- the run may end here, or some leaf is told as next: document 01's refusal 13 never falls
+  pub goes-on : (w : Run) → Begins P w → ((s : Status) × (toldEnded depth P w ≡ ending s)) ⊎ ((n : ℕ) × Holds (toldNext depth P w) n)
+  -- "a leaf occurs at most once in a run": in a beginning, and so in a complete run
   pub once : (w : Run) → Begins P w → (n : ℕ) → occurrences n w ≤ 1
 
 -- Of a process as a plan writes it, of which the undos are no deeper than the cells' levels.

@@ -1,8 +1,12 @@
--- Cells: where a process stands after some entries of a run, computed by one fold over it from the outcomes of its leaves alone.
--- Level 0 is the process run forward, level 1 its undo, level 2 the undo of its undo, and so on.
+-- Cells: where a process stands after some entries of a run, computed by one fold over it from the outcomes of its leaves alone, and
+-- what the runner tells from that (document 01, "The job"). Each rule is the sentence of document 01, "Runs", on its form.
+--
+-- A process has levels: level 0 is its forward run (the report's Π), level 1 its undo (the report's compensation process), level 2 the
+-- undo of its undo, and so on. A cell is a process at one level: nothing to run, or whether it has begun, how it has ended, and which
+-- leaves may come next in it.
 use mathlib.Core.Path.{_≡_}
 use mathlib.Core.Bool.{Bool, true, false, not, _||_}
-use mathlib.Core.List.{List, [], _∷_}
+use mathlib.Core.List.{[], _∷_}
 use Prim.Native.Nat.{ℕ, zero, suc, _/_, _%_, _^_}
 use lib.Bits.{bitOr}
 use lib.Dec.{eqb}
@@ -11,15 +15,17 @@ use Rattle.process.specs.declared.cells.Ended.{Ended}
 use Rattle.process.specs.declared.cells.Ended.the-variants.{Open, Succeeded, Failed}
 use Rattle.process.specs.declared.cells.Cell.{Cell}
 
+-- By a test.
 abbrev pub pick : {A : Type 0} → Bool → A → A → A
 pick true x y = x
 pick false x y = y
 
--- Ended as ✓ or ×.
+-- Ended with the report's ✓ or ×.
 abbrev pub ending : Status → Ended
 ending ok = Succeeded
 ending fail = Failed
 
+-- It has ended, and with ✓; with ×.
 abbrev pub isSucceeded : Ended → Bool
 isSucceeded Open = false
 isSucceeded Succeeded = true
@@ -30,10 +36,11 @@ isFailed Open = false
 isFailed Succeeded = false
 isFailed Failed = true
 
--- The outcomes of the leaves, by node number. Open: not run. This table is all that is kept of the entries taken so far.
+-- The outcomes of the leaves by node number: not run (Open), finished, failed. This table is all that is kept of a run's entries.
 abbrev pub Outcomes : Type 0
 Outcomes = ℕ → Ended
 
+-- Before any entry; after one entry more; after a run.
 abbrev pub noneRun : Outcomes
 noneRun n = Open
 
@@ -44,10 +51,11 @@ abbrev pub outcomesAfter : Outcomes → Run → Outcomes
 outcomesAfter table [] = table
 outcomesAfter table (entry n s ∷ w) = outcomesAfter (setOutcome table n s) w
 
--- A set of leaves is a number, document 01's "63 bits (bit n for node n)".
+-- A set of leaves is a number, document 01's "63 bits (bit n for node n)". It holds the leaf n.
 abbrev pub Holds : ℕ → ℕ → Type 0
 Holds leaves n = leaves / 2 ^ n % 2 ≡ 1
 
+-- The set of the leaf n alone.
 abbrev pub only : ℕ → ℕ
 only n = 2 ^ n
 
@@ -59,7 +67,7 @@ given test leaves = pick test leaves 0
 abbrev pub emptyCell : Cell
 emptyCell = record { empty = true; begun = false; ended = Succeeded; next = 0 }
 
--- A leaf, by its outcome: where it has not run it may come next.
+-- A leaf going forward, by its outcome: where it has not run it may come next.
 abbrev pub leafCell : ℕ → Ended → Cell
 leafCell n Open = record { empty = false; begun = false; ended = Open; next = only n }
 leafCell n Succeeded = record { empty = false; begun = true; ended = Succeeded; next = 0 }
@@ -73,18 +81,18 @@ nodeBegun choice x y = x || y
 nodeBegun compensation x y = x
 nodeBegun handler x y = x
 
--- Sequence: the right side's where the left has succeeded.
+-- How a sequence has ended: "the right side runs only if the left succeeds".
 abbrev pub sequenceEnded : Ended → Ended → Ended
 sequenceEnded Open y = Open
 sequenceEnded Succeeded y = y
 sequenceEnded Failed y = Failed
 
--- Parallel, where one side has failed and the other has not begun: it may end so, "the other may also never have begun". (The second
--- and the third set of the figure's rule.)
+-- How a parallel has ended of which one side has failed and the other has not begun: "the other may also never have begun", the second
+-- and the third set of the figure's rule.
 abbrev pub oneSide : Ended
 oneSide = Failed
 
--- Parallel: by both sides, where both have ended.
+-- How a parallel has ended: "it succeeds if both do".
 abbrev pub parallelEnded : Ended → Bool → Ended → Bool → Ended
 parallelEnded Open x Open y = Open
 parallelEnded Open x Succeeded y = Open
@@ -98,7 +106,7 @@ parallelEnded Failed x Open true = Open
 parallelEnded Failed x Succeeded y = Failed
 parallelEnded Failed x Failed y = Failed
 
--- Handler: the right side's where the left has failed.
+-- How a handler has ended: the right side runs "if the left fails".
 abbrev pub handlerEnded : Ended → Ended → Ended
 handlerEnded Open y = Open
 handlerEnded Succeeded y = Succeeded
@@ -137,19 +145,19 @@ nodeCell f x y x-next x-over = record {
   next = bitOr (given (leftMay f (y .begun)) x-next) (given (rightMay f (x .ended) (x .begun) x-over) (y .next));
 }
 
--- Two undos as one: an empty one falls away.
+-- Two undos as one, by a sequence or a parallel: an empty one falls away.
 abbrev pub joinCell : Form → Cell → Cell → Cell
 joinCell f x y = pick (x .empty) y (pick (y .empty) x (nodeCell f x y (x .next) false))
 
--- A process, level by level.
+-- A process by its levels.
 abbrev pub Levels : Type 0
 Levels = ℕ → Cell
 
--- Its undo, level by level.
+-- Its undo by its levels.
 abbrev pub undoLevels : Levels → Levels
 undoLevels a i = a (suc i)
 
--- A process run with its undo, the report's ⟦ ⟧ from its Π, by its levels 0 to `depth`: how it has ended.
+-- How a process has ended that runs its undo where it fails: the undo has then to end, "whether or not the undo succeeded".
 abbrev pub thenUndo : Ended → Ended → Ended
 thenUndo Open undone = Open
 thenUndo Succeeded undone = Succeeded
@@ -157,11 +165,12 @@ thenUndo Failed Open = Open
 thenUndo Failed Succeeded = Failed
 thenUndo Failed Failed = Failed
 
+-- The whole of a process, the report's ⟦ ⟧ from its Π: the process run with its undo, by its levels 0 to `depth`. How it has ended.
 abbrev pub wholeEnded : ℕ → Levels → Ended
 wholeEnded zero a = a zero .ended
 wholeEnded (suc depth) a = thenUndo (a zero .ended) (wholeEnded depth (undoLevels a))
 
--- And what may come next in it: forward until its undo has begun, by its undo once it has failed.
+-- What may come next in the whole: going forward until the undo has begun, by the undo once it has failed.
 abbrev pub wholeNext : ℕ → Levels → ℕ
 wholeNext zero a = a zero .next
 wholeNext (suc depth) a = bitOr (given (not (a (suc zero) .begun)) (a zero .next)) (given (isFailed (a zero .ended)) (wholeNext depth (undoLevels a)))
@@ -179,7 +188,8 @@ abbrev pub inTurn : ℕ → Cell → Cell → Cell
 inTurn zero x y = joinCell sequence x y
 inTurn (suc i) x y = inTurn i y x
 
--- The undo of a composite of the levels a and b. A choice ran one side: the undo of the other is empty.
+-- The undo of a composite of a and b, level by level. A choice ran one side, and the undo of the other is empty. A compensation that
+-- succeeded is undone by its right side; a handler whose left failed, by the right's undo, the left's being spent.
 abbrev pub nodeUndo : Form → Levels → Levels → Levels
 nodeUndo sequence a b i = inTurn i (undoLevels b i) (undoLevels a i)
 nodeUndo parallel a b i = joinCell parallel (undoLevels a i) (undoLevels b i)
@@ -187,24 +197,25 @@ nodeUndo choice a b i = inTurn i (undoLevels b i) (undoLevels a i)
 nodeUndo compensation a b i = pick (isSucceeded (a zero .ended)) (b i) (undoLevels a i)
 nodeUndo handler a b i = pick (isSucceeded (a zero .ended)) (undoLevels a i) (undoLevels b i)
 
+-- A composite of a and b: one function from the form and the cells of the two sides.
 abbrev pub nodeLevels : ℕ → Form → Levels → Levels → Levels
 nodeLevels depth f a b zero = nodeCell f (a zero) (b zero) (leftNext f (a zero .next) (wholeNext depth a)) (isFailed (wholeEnded depth a))
 nodeLevels depth f a b (suc i) = nodeUndo f a b i
 
--- The levels of a leaf: its own, and no undo.
+-- A leaf: "a leaf's undo is nothing".
 abbrev pub leafLevels : ℕ → Ended → Levels
 leafLevels n outcome zero = leafCell n outcome
 leafLevels n outcome (suc i) = emptyCell
 
 -- The fold: the cells of a process from the outcomes of its leaves. `depth`: how many levels of undos there may be.
-abbrev pub levelsOf : ℕ → Outcomes → Process → Levels
-levelsOf depth table done i = emptyCell
-levelsOf depth table (leaf n kind) i = leafLevels n (table n) i
-levelsOf depth table (node f P Q) i = nodeLevels depth f (levelsOf depth table P) (levelsOf depth table Q) i
+abbrev pub cellsOf : ℕ → Outcomes → Process → Levels
+cellsOf depth table done i = emptyCell
+cellsOf depth table (leaf n kind) i = leafLevels n (table n) i
+cellsOf depth table (node f P Q) i = nodeLevels depth f (cellsOf depth table P) (cellsOf depth table Q) i
 
 -- What is told at the root: how the run may end here, and the leaves that may come next.
 abbrev pub toldEnded : ℕ → Process → Run → Ended
-toldEnded depth P w = wholeEnded depth (levelsOf depth (outcomesAfter noneRun w) P)
+toldEnded depth P w = wholeEnded depth (cellsOf depth (outcomesAfter noneRun w) P)
 
 abbrev pub toldNext : ℕ → Process → Run → ℕ
-toldNext depth P w = wholeNext depth (levelsOf depth (outcomesAfter noneRun w) P)
+toldNext depth P w = wholeNext depth (cellsOf depth (outcomesAfter noneRun w) P)

@@ -1,15 +1,16 @@
 -- The cells of the code: level 0, and level 1 for the undo, which is what the plans of a plan file need (none has a compensation in an
 -- undo side). Each definition is that of Cells at these two levels.
 use mathlib.Core.Path.{_≡_}
+use mathlib.Core.List.{[], _∷_, _++_}
 use Prim.Native.Nat.{ℕ, zero, suc, _<_}
 use lib.Dec.{eqb, ltb}
-use Rattle.process.specs.Process.{Kind, Form, sequence, parallel, choice, compensation, handler, Process, leaf, node, Run}
+use Rattle.process.specs.Process.{Status, Kind, Form, sequence, parallel, choice, compensation, handler, Process, leaf, node, entry, Run}
 use Rattle.process.specs.declared.cells.Ended.{Ended}
 use Rattle.process.specs.declared.cells.Cells.{Cells}
 use Rattle.process.specs.declared.cells.Told.{Told}
 use Rattle.process.specs.declared.cells.Composite.{Composite}
 use Rattle.process.specs.declared.cells.Composite.the-variants.{Sequence, Parallel, Choice, Compensation, Handler}
-use Rattle.process.specs.Cells.{pick, Outcomes, noneRun, outcomesAfter, emptyCell, Levels, wholeEnded, wholeNext, nodeLevels, leafLevels, levelsOf, toldEnded, toldNext}
+use Rattle.process.specs.Cells.{pick, Outcomes, noneRun, setOutcome, outcomesAfter, emptyCell, Levels, wholeEnded, wholeNext, nodeLevels, leafLevels, cellsOf, toldEnded, toldNext}
 
 abbrev pub levels : Cells → Levels
 levels a zero = a .forward
@@ -50,11 +51,13 @@ abbrev pub toldTwo : Cells → Told
 toldTwo a = record { ended = wholeEnded 1 (levels a); next = wholeNext 1 (levels a) }
 
 -- The cells of a process.
-abbrev pub cellsOf : Outcomes → Process → Cells
-cellsOf table P = two (levelsOf 1 table P)
+abbrev pub cellsTwo : Outcomes → Process → Cells
+cellsTwo table P = two (cellsOf 1 table P)
 
--- From the leaves up, the code's cells of a process are those of the definition, and what is told at the root is what Beginnings speaks of.
+-- From the leaves up, the code's cells of a process are those of the definition, and what is told at the root is what Beginnings speaks
+-- of. An entry more is one outcome more.
 pub record TwoLevelsFold : Type 0 where
-  pub at-leaf : (table : Outcomes) (n : ℕ) (k : Kind) → n < 64 → leafTwo n (table n) ≡ cellsOf table (leaf n k)
-  pub at-node : (table : Outcomes) (number : ℕ) (P Q : Process) → nodeTwo number (cellsOf table P) (cellsOf table Q) ≡ cellsOf table (node (numberForm number) P Q)
-  pub at-root : (w : Run) (P : Process) → toldTwo (cellsOf (outcomesAfter noneRun w) P) ≡ record { ended = toldEnded 1 P w; next = toldNext 1 P w }
+  pub at-leaf : (table : Outcomes) (n : ℕ) (k : Kind) → n < 64 → leafTwo n (table n) ≡ cellsTwo table (leaf n k)
+  pub at-node : (table : Outcomes) (number : ℕ) (P Q : Process) → nodeTwo number (cellsTwo table P) (cellsTwo table Q) ≡ cellsTwo table (node (numberForm number) P Q)
+  pub at-entry : (table : Outcomes) (w : Run) (n : ℕ) (s : Status) → outcomesAfter table (w ++ (entry n s ∷ [])) ≡ setOutcome (outcomesAfter table w) n s
+  pub at-root : (w : Run) (P : Process) → toldTwo (cellsTwo (outcomesAfter noneRun w) P) ≡ record { ended = toldEnded 1 P w; next = toldNext 1 P w }

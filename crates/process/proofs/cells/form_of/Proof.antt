@@ -1,5 +1,4 @@
 -- `cells::form_of` meets its contract: in each arm the number is known, and in the last it is none of those before.
-use mathlib.Core.Path.{_≡_, refl}
 use borrow.Author.Tests.{ne-eqb}
 use Rattle.process.proofs.cells.form_of.Statement.{statement}
 use Rattle.process.proofs.cells.form_of.Tie as tie

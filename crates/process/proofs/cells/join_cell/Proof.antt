@@ -1,5 +1,4 @@
 -- `cells::join_cell` meets its contract: where neither is empty, by what `node_cell` ensures.
-use mathlib.Core.Path.{_≡_}
 use borrow.Author.Needs.{needs}
 use Rattle.process.proofs.cells.join_cell.Statement.{statement}
 use Rattle.process.proofs.cells.join_cell.Tie as tie

@@ -1,5 +1,4 @@
 -- `cells::leaf_cells` meets its contract: the number is tested, then the outcome is known.
-use mathlib.Core.Path.{_≡_, refl}
 use borrow.Author.Needs.{needs}
 use borrow.Author.Tests.{lt-ltb, le-ltb}
 use Rattle.process.proofs.Leaves.{one-leaf}

@@ -1,5 +1,4 @@
 -- `cells::node_cell` meets its contract: each field is what a callee ensures.
-use mathlib.Core.Path.{_≡_}
 use borrow.Author.Needs.{needs}
 use Rattle.process.proofs.cells.node_cell.Statement.{statement}
 use Rattle.process.proofs.cells.node_cell.Tie as tie

@@ -1,5 +1,4 @@
 -- `cells::node_cells` meets its contract: each part is what a callee ensures, at the form of the number.
-use mathlib.Core.Path.{_≡_}
 use borrow.Author.Needs.{needs}
 use Rattle.process.proofs.cells.node_cells.Statement.{statement}
 use Rattle.process.proofs.cells.node_cells.Tie as tie

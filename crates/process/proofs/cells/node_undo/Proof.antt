@@ -1,5 +1,5 @@
 -- `cells::node_undo` meets its contract: in each arm the form is known, and then by what the callee ensures.
-use mathlib.Core.Path.{_≡_, sym, _∙_}
+use mathlib.Core.Path.{sym, _∙_}
 use borrow.Author.Needs.{needs}
 use Rattle.process.proofs.cells.node_undo.Statement.{statement}
 use Rattle.process.proofs.cells.node_undo.Tie as tie

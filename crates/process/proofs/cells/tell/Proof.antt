@@ -1,5 +1,4 @@
 -- `cells::tell` meets its contract: each field is what a callee ensures.
-use mathlib.Core.Path.{_≡_}
 use borrow.Author.Needs.{needs}
 use Rattle.process.proofs.cells.tell.Statement.{statement}
 use Rattle.process.proofs.cells.tell.Tie as tie
