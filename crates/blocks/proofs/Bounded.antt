@@ -1,7 +1,7 @@
 -- The laws of `every` and `total`: what a loop over the numbers below a bound shows of them turn by turn, and what they say of each
 -- number. All by induction on the bound.
 use mathlib.Core.Path.{_≡_, refl, sym, _∙_}
-use mathlib.Core.Bool.{Bool, true, false, true≢false}
+use mathlib.Core.Bool.{Bool, true, false, true≢false, cond}
 use mathlib.Core.Logic.{_⊎_, inl, inr}
 use Prim.Native.Nat.{ℕ, zero, suc, _+_, _≤_, _<_}
 use native.Mathlib.Numerals.{add-one}
@@ -9,7 +9,6 @@ use native.Mathlib.Nat.{not-suc-le-zero}
 use native.Mathlib.Omega.{arith}
 use lib.Dec.{eqb}
 use borrow.Author.Tests.{eqb-true, eqb-false}
-use Rattle.blocks.specs.Choose.{pick}
 use Rattle.blocks.specs.Bounded.{every, total}
 
 -- a test, decided, with what it says
@@ -18,7 +17,7 @@ decide true = inl refl
 decide false = inr refl
 
 -- a choice that is true: both parts are
-pub both-true : (a b : Bool) → pick a b false ≡ true → (a ≡ true) × (b ≡ true)
+pub both-true : (a b : Bool) → cond a b false ≡ true → (a ≡ true) × (b ≡ true)
 both-true true b e = (refl, e)
 both-true false b e = absurd (true≢false (sym e))
 

@@ -1,10 +1,9 @@
 -- Document 01's block: "a two-byte body length, a two-byte kind, then the body", over a list of bytes.
 use mathlib.Core.List.{List, [], _∷_, _++_}
-use mathlib.Core.Bool.{Bool}
+use mathlib.Core.Bool.{Bool, cond}
 use Prim.Native.Nat.{ℕ, _+_, _*_, _/_, _%_}
 use lib.Dec.{leb}
 use lib.ListN.{length, getD}
-use Rattle.blocks.specs.Choose.{pick}
 use Rattle.blocks.specs.declared.Heading.{Heading}
 use Rattle.blocks.specs.declared.Heading.the-variants.{Whole, Cut}
 
@@ -14,7 +13,7 @@ le16 s at = getD s at 0 + 256 * getD s (at + 1) 0
 
 -- The heading at `at`, a cursor: its kind and its body's length, or that it is cut short.
 abbrev pub headingAt : List ℕ → ℕ → Heading
-headingAt s at = pick (leb (at + 4) (length s)) (Whole (le16 s (at + 2)) (le16 s at)) Cut
+headingAt s at = cond (leb (at + 4) (length s)) (Whole (le16 s (at + 2)) (le16 s at)) Cut
 
 -- The body of the block at `at` starts after its heading's four bytes, and is not cut short.
 abbrev pub bodyFits : List ℕ → ℕ → ℕ → Bool

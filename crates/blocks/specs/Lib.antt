@@ -1,4 +1,3 @@
-pub mod Choose
 pub mod Bounded
 pub mod Block
 pub mod Area

@@ -1,14 +1,13 @@
 -- What an accepted file is: where its four bodies lie, one after the other, and that each passed its checks. The way back from the
 -- reader's answer, and the way there.
 use mathlib.Core.Path.{_≡_, refl, subst}
-use mathlib.Core.Bool.{Bool, true, false}
+use mathlib.Core.Bool.{Bool, true, false, cond}
 use mathlib.Core.List.{List}
 use Prim.Native.Nat.{ℕ, _+_, _*_, _≤_}
 use native.Mathlib.Omega.{arith}
 use lib.Dec.{eqb}
 use lib.ListN.{length}
 use borrow.Author.Tests.{eqb-true, eq-eqb}
-use Rattle.blocks.specs.Choose.{pick}
 use Rattle.blocks.specs.declared.Part.{Part}
 use Rattle.plan.specs.Reading.{endOf, blockAt, onBlock, withRule, withNodes, withPairs, withTypes, readWithin}
 use Rattle.plan.specs.declared.Block.{Block}
@@ -37,7 +36,7 @@ found : (b : Block) (next : Part → Reading) (l : Layout) → onBlock b next �
 found (block.Lies p) next l h = (p, refl, h)
 found (block.Refused n) next l h = refused-no-layout n l h
 
-ended : (t : Bool) (k l : Layout) → pick t (Accepted k) (Refused 1) ≡ Accepted l → (t ≡ true) × (k ≡ l)
+ended : (t : Bool) (k l : Layout) → cond t (Accepted k) (Refused 1) ≡ Accepted l → (t ≡ true) × (k ≡ l)
 ended true k l h = (refl, same-layout k l h)
 ended false k l h = refused-no-layout 1 l h
 

@@ -1,7 +1,7 @@
 -- Demand 1, said without a reader: a list of bytes is accepted exactly where it is a plan file. Each check that passed is the statement
 -- that it tests, and each statement passes its check.
 use mathlib.Core.Path.{_≡_, refl, sym, ap, _∙_}
-use mathlib.Core.Bool.{Bool, true, false}
+use mathlib.Core.Bool.{Bool, true, false, cond}
 use mathlib.Core.List.{List, [], _++_, append-assoc, append-nil}
 use mathlib.Core.Logic.{_↔_}
 use Prim.Native.Nat.{ℕ, _+_, _*_, _/_, _%_, _≤_}
@@ -10,7 +10,6 @@ use lib.ListN.{length, drop, length-append}
 use lib.Seq.{drop-length}
 use lib.Dec.{leb}
 use borrow.Author.Tests.{le-leb, eq-eqb}
-use Rattle.blocks.specs.Choose.{pick}
 use Rattle.blocks.specs.Block.{block}
 use Rattle.plan.specs.Types.{typesOk}
 use Rattle.plan.specs.Pairs.{pairsOk}
@@ -31,7 +30,7 @@ use Rattle.plan.proofs.Accepted.{Bodies, accepted-bodies, bodies-accept
 use Rattle.plan.proofs.Blocks.{body-length, block-here, block-lies}
 
 -- a number that stands for a fault stands for none only where the test holds
-none : (t : Bool) (n : ℕ) → pick t 0 (n + 1) ≡ 0 → t ≡ true
+none : (t : Bool) (n : ℕ) → cond t 0 (n + 1) ≡ 0 → t ≡ true
 none true n h = refl
 none false n h = absurd (omega arith)
 
@@ -41,7 +40,7 @@ pub record Sound (actions : ℕ) (b : List ℕ) : Type 0 where
   pub once : EachNamedOnce b
   pub flat : NotNested b
 
-three : (x y z : Bool) → _≡_ {A = ℕ} (pick x (pick y (pick z 0 8) 7) 6) 0 → (x ≡ true) × (y ≡ true) × (z ≡ true)
+three : (x y z : Bool) → _≡_ {A = ℕ} (cond x (cond y (cond z 0 8) 7) 6) 0 → (x ≡ true) × (y ≡ true) × (z ≡ true)
 three true true true h = (refl, refl, refl)
 three true true false h = absurd (omega arith)
 three true false z h = absurd (omega arith)
@@ -61,7 +60,7 @@ nodes-say actions b = (to, from)
         rw (x, named-say b .1 (h .once), nested-say b (descending actions b x) .1 (h .flat))
 
 -- a body of so many items has a permitted length
-permit-bytes : (kind most : ℕ) (b : List ℕ) → Items 1 1 most b → pick (leb 1 (length b)) (leb (length b) most) false ≡ true
+permit-bytes : (kind most : ℕ) (b : List ℕ) → Items 1 1 most b → cond (leb 1 (length b)) (leb (length b) most) false ≡ true
 permit-bytes kind most b i = simp (le-leb 1 (length b) (omega (arith, i .whole, i .enough)), le-leb (length b) most (omega (arith, i .whole, i .few)))
 
 permit-pairs : (most : ℕ) (b : List ℕ) → Items 2 0 most b → lengthOk 2 most (length b) ≡ true

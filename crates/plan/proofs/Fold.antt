@@ -2,7 +2,7 @@
 -- parts' values (`fold-node`), a table that is filled in the order of the nodes holds the fold of each (`table-more`), and a map between
 -- two algebras takes one fold to the other (`fold-map`). By induction on the fuel.
 use mathlib.Core.Path.{_≡_, refl, sym, ap₂, _∙_}
-use mathlib.Core.Bool.{Bool, true, false}
+use mathlib.Core.Bool.{Bool, true, false, cond}
 use mathlib.Core.List.{List}
 use Prim.Native.Nat.{ℕ, zero, suc, _+_, _≤_, _<_}
 use native.Mathlib.Nat.{not-suc-le-zero}
@@ -11,7 +11,6 @@ use lib.Dec.{ltb, eqb}
 use lib.ListN.{length, getD, set}
 use lib.Seq.{getD-set-same, getD-set-other}
 use borrow.Author.Tests.{ltb-true, ltb-false, lt-ltb, le-ltb, eqb-true, eqb-false}
-use Rattle.blocks.specs.Choose.{pick}
 use Rattle.plan.specs.Nodes.{count, form, left, right, Descending}
 use Rattle.plan.specs.Fold.{foldFrom, foldAt}
 
@@ -47,8 +46,8 @@ module _ {A : Type 0} (leaf : ℕ → A) (node : ℕ → A → A → A) (b : Lis
         go : (left b i < k → left b i < m → left b i < count b → foldFrom leaf node b k (left b i) ≡ foldFrom leaf node b m (left b i))
             → (right b i < k → right b i < m → right b i < count b → foldFrom leaf node b k (right b i) ≡ foldFrom leaf node b m (right b i))
             → (t : Bool) → ltb (form b i) 3 ≡ t
-            → pick t (leaf i) (node i (foldFrom leaf node b k (left b i)) (foldFrom leaf node b k (right b i)))
-            ≡ pick t (leaf i) (node i (foldFrom leaf node b m (left b i)) (foldFrom leaf node b m (right b i)))
+            → cond t (leaf i) (node i (foldFrom leaf node b k (left b i)) (foldFrom leaf node b k (right b i)))
+            ≡ cond t (leaf i) (node i (foldFrom leaf node b m (left b i)) (foldFrom leaf node b m (right b i)))
         go on-left on-right true e = refl
         go on-left on-right false e =
             let (l, r) = down i c (ltb-false _ _ e) in
@@ -62,10 +61,10 @@ module _ {A : Type 0} (leaf : ℕ → A) (node : ℕ → A → A → A) (b : Lis
 
     -- what is made from the table's entries for a node's parts is the node's value
     pub fold-entry : (t : List A) (d : A) (i : ℕ) → i < count b → ((k : ℕ) → k < i → getD t k d ≡ foldAt leaf node b k)
-        → pick (ltb (form b i) 3) (leaf i) (node i (getD t (left b i) d) (getD t (right b i) d)) ≡ foldAt leaf node b i
+        → cond (ltb (form b i) 3) (leaf i) (node i (getD t (left b i) d) (getD t (right b i) d)) ≡ foldAt leaf node b i
     fold-entry t d i c old = go (ltb (form b i) 3) refl
       where
-        go : (q : Bool) → ltb (form b i) 3 ≡ q → pick q (leaf i) (node i (getD t (left b i) d) (getD t (right b i) d)) ≡ foldAt leaf node b i
+        go : (q : Bool) → ltb (form b i) 3 ≡ q → cond q (leaf i) (node i (getD t (left b i) d) (getD t (right b i) d)) ≡ foldAt leaf node b i
         go true e = sym (fold-leaf i (ltb-true _ _ e))
         go false e =
             let h = ltb-false _ _ e in
@@ -93,7 +92,7 @@ fold-map h leaf node leaf′ node′ b on-leaf on-node (suc k) i =
     go : h (foldFrom leaf node b k (left b i)) ≡ foldFrom leaf′ node′ b k (left b i)
         → h (foldFrom leaf node b k (right b i)) ≡ foldFrom leaf′ node′ b k (right b i)
         → (t : Bool)
-        → h (pick t (leaf i) (node i (foldFrom leaf node b k (left b i)) (foldFrom leaf node b k (right b i))))
-        ≡ pick t (leaf′ i) (node′ i (foldFrom leaf′ node′ b k (left b i)) (foldFrom leaf′ node′ b k (right b i)))
+        → h (cond t (leaf i) (node i (foldFrom leaf node b k (left b i)) (foldFrom leaf node b k (right b i))))
+        ≡ cond t (leaf′ i) (node′ i (foldFrom leaf′ node′ b k (left b i)) (foldFrom leaf′ node′ b k (right b i)))
     go l r true = on-leaf i
     go l r false = on-node i _ _ ∙ ap₂ (node′ i) l r

@@ -1,13 +1,12 @@
 -- The test of the form rules holds exactly where the statement does; so parts have smaller numbers where it holds.
 use mathlib.Core.Path.{_≡_, refl, sym}
-use mathlib.Core.Bool.{Bool, true, false, true≢false}
+use mathlib.Core.Bool.{Bool, true, false, true≢false, cond}
 use mathlib.Core.List.{List}
 use mathlib.Core.Logic.{_↔_}
 use Prim.Native.Nat.{ℕ}
 use native.Mathlib.Omega.{arith}
 use lib.Dec.{ltb, leb, eqb}
 use borrow.Author.Tests.{leb-true, le-leb, ltb-true, ltb-false, lt-ltb, eqb-true, eqb-false, eq-eqb}
-use Rattle.blocks.specs.Choose.{pick}
 use Rattle.blocks.proofs.Bounded.{both-true, every-at, every-all}
 use Rattle.plan.specs.Nodes.{count, form, left, right, FormRule, FormRules, Descending}
 use Rattle.plan.specs.NodeTests.{nodeOk, formsOk}
@@ -17,9 +16,9 @@ module _ (actions : ℕ) (b : List ℕ) where
   node-says i = (to (eqb (form b i) 0) (ltb (form b i) 3) (leb (form b i) 7) refl refl refl, λ k. from k (eqb (form b i) 0) (ltb (form b i) 3) refl refl)
     where
       to : (a small most : Bool) → eqb (form b i) 0 ≡ a → ltb (form b i) 3 ≡ small → leb (form b i) 7 ≡ most
-          → pick a (pick (ltb (left b i) actions) (eqb (right b i) 0) false)
-          (pick small (pick (eqb (left b i) 0) (eqb (right b i) 0) false)
-          (pick most (pick (ltb (left b i) i) (ltb (right b i) i) false) false))
+          → cond a (cond (ltb (left b i) actions) (eqb (right b i) 0) false)
+          (cond small (cond (eqb (left b i) 0) (eqb (right b i) 0) false)
+          (cond most (cond (ltb (left b i) i) (ltb (right b i) i) false) false))
           ≡ true
           → FormRule actions b i
       to true s m ea es em h =
@@ -54,9 +53,9 @@ module _ (actions : ℕ) (b : List ℕ) where
       to false false false ea es em h = absurd (true≢false (sym h))
 
       from : FormRule actions b i → (a small : Bool) → eqb (form b i) 0 ≡ a → ltb (form b i) 3 ≡ small
-          → pick a (pick (ltb (left b i) actions) (eqb (right b i) 0) false)
-          (pick small (pick (eqb (left b i) 0) (eqb (right b i) 0) false)
-          (pick (leb (form b i) 7) (pick (ltb (left b i) i) (ltb (right b i) i) false) false))
+          → cond a (cond (ltb (left b i) actions) (eqb (right b i) 0) false)
+          (cond small (cond (eqb (left b i) 0) (eqb (right b i) 0) false)
+          (cond (leb (form b i) 7) (cond (ltb (left b i) i) (ltb (right b i) i) false) false))
           ≡ true
       from k true s ea es = let (l, r) = k .action (eqb-true _ _ ea) in simp (lt-ltb _ _ l, eq-eqb _ _ r)
       from k false true ea es =

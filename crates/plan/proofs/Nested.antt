@@ -1,7 +1,7 @@
 -- The loop of check 8: a table of which nodes hold a compensation at or below them, filled in the order of the nodes, decides each undo
 -- side by the entries before it.
 use mathlib.Core.Path.{_≡_, refl, _∙_}
-use mathlib.Core.Bool.{Bool, true, false}
+use mathlib.Core.Bool.{Bool, true, false, cond}
 use mathlib.Core.List.{List}
 use Prim.Native.Nat.{ℕ, _+_, _<_}
 use native.Mathlib.Nat.{not-suc-le-zero}
@@ -9,7 +9,6 @@ use native.Mathlib.Omega.{arith}
 use lib.Dec.{ltb, eqb}
 use lib.ListN.{length, getD, set, length-set}
 use borrow.Author.Tests.{eqb-true}
-use Rattle.blocks.specs.Choose.{pick}
 use Rattle.blocks.proofs.Bounded.{Passed, passed-none, passed-more}
 use Rattle.plan.specs.Nodes.{count, form, left, right, Descending}
 use Rattle.plan.specs.NodeTests.{holding, noCompensation, holds, undoOk}
@@ -45,7 +44,7 @@ module _ (b : List ℕ) where
         go false e = simp e
 
     pub filled-more : (size i : ℕ) (held : List Bool) (v : Bool) → i < count b → i < size → undoTest b i ≡ true
-        → v ≡ pick (ltb (form b i) 3) false (holding (form b i) (getD held (left b i) false) (getD held (right b i) false))
+        → v ≡ cond (ltb (form b i) 3) false (holding (form b i) (getD held (left b i) false) (getD held (right b i) false))
         → Filled size i held → Filled size (i + 1) (set held i v)
     filled-more size i held v c s t e f = record {
       long = simp length-set (f .long);

@@ -1,13 +1,12 @@
 -- A refusal's number is one of 1 to 9: whichever way the tests go, the answer's number is.
 use mathlib.Core.Path.{_≡_, refl}
-use mathlib.Core.Bool.{Bool, true, false}
+use mathlib.Core.Bool.{Bool, true, false, cond}
 use mathlib.Core.List.{List}
 use Prim.Native.Nat.{ℕ, _+_, _≤_}
 use native.Mathlib.Omega.{arith}
 use lib.Dec.{eqb}
 use lib.ListN.{length, take, drop}
 use borrow.Author.Tests.{eqb-false}
-use Rattle.blocks.specs.Choose.{pick}
 use Rattle.blocks.specs.Block.{headingAt, bodyFits}
 use Rattle.blocks.specs.declared.Part.{Part}
 use Rattle.blocks.specs.declared.Heading.{Heading}
@@ -23,7 +22,7 @@ use Rattle.plan.specs.declared.Reading.{Reading}
 use Rattle.plan.specs.declared.Reading.the-variants as reading
 
 -- what holds of both sides of a choice holds of it
-either-way : {A : Type 0} (F : A → Type 0) (t : Bool) {a b : A} → F a → F b → F (pick t a b)
+either-way : {A : Type 0} (F : A → Type 0) (t : Bool) {a b : A} → F a → F b → F (cond t a b)
 either-way F true x y = x
 either-way F false x y = y
 
@@ -52,7 +51,7 @@ fault-number kind actions b =
 judged-number : (n : ℕ) (p : Part) → n ≤ 9 → BlockNumber (judged n p)
 judged-number n p h = go (eqb n 0) refl
   where
-    go : (t : Bool) → eqb n 0 ≡ t → BlockNumber (pick t (block.Lies p) (block.Refused n))
+    go : (t : Bool) → eqb n 0 ≡ t → BlockNumber (cond t (block.Lies p) (block.Refused n))
     go true e = tt
     go false e = let z = eqb-false n 0 e in (omega arith, h)
 
@@ -65,7 +64,7 @@ block-number s at kind most actions = go (headingAt s at)
         (either-way BlockNumber (bodyFits s at n) (judged-number (fault kind actions (take n (drop (at + 4) s))) _ (fault-number kind actions (take n (drop (at + 4) s)))) (omega arith, omega arith))
         (omega arith, omega arith)
 
-    go : (h : Heading) → BlockNumber (onHeading h (λ k n. pick (eqb k kind) (bodyAt s at kind most actions n) (block.Refused 2)))
+    go : (h : Heading) → BlockNumber (onHeading h (λ k n. cond (eqb k kind) (bodyAt s at kind most actions n) (block.Refused 2)))
     go (Whole k n) = either-way BlockNumber (eqb k kind) (body n) (omega arith, omega arith)
     go Cut = (omega arith, omega arith)
 

@@ -1,7 +1,7 @@
 -- A longer input than any plan file is refused by the number of its beginning: no check that decides looks past the bytes that the
 -- permitted lengths add up to. Block by block, each check says of the beginning what it says of the whole.
 use mathlib.Core.Path.{_≡_, refl}
-use mathlib.Core.Bool.{true, false}
+use mathlib.Core.Bool.{true, false, cond}
 use mathlib.Core.List.{List}
 use mathlib.Core.Logic.{_⊎_, inl, inr}
 use Prim.Native.Nat.{ℕ, _+_, _*_, _≤_, _<_}
@@ -10,7 +10,6 @@ use lib.Dec.{eqb}
 use lib.ListN.{length, take, drop, length-take, length-drop}
 use lib.Seq.{getD-take, getD-drop, ext-getD, length-take-le}
 use borrow.Author.Tests.{le-leb, ne-eqb}
-use Rattle.blocks.specs.Choose.{pick}
 use Rattle.blocks.specs.Block.{headingAt}
 use Rattle.blocks.specs.declared.Part.{Part}
 use Rattle.blocks.specs.declared.Heading.{Heading}
@@ -53,7 +52,7 @@ module _ (s : List ℕ) (n : ℕ) (long : n ≤ length s) where
     pub same-block : blockAt (take n s) at kind most actions ≡ blockAt s at kind most actions
     same-block = rw (same-heading at (omega arith)) (go (headingAt s at))
       where
-        go : (h : Heading) → onHeading h (λ k m. pick (eqb k kind) (bodyAt (take n s) at kind most actions m) (Refused 2)) ≡ onHeading h (λ k m. pick (eqb k kind) (bodyAt s at kind most actions m) (Refused 2))
+        go : (h : Heading) → onHeading h (λ k m. cond (eqb k kind) (bodyAt (take n s) at kind most actions m) (Refused 2)) ≡ onHeading h (λ k m. cond (eqb k kind) (bodyAt s at kind most actions m) (Refused 2))
         go (Whole k m) = rw (same-body m)
         go Cut = refl
 

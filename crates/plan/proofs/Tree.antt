@@ -1,19 +1,20 @@
 -- The process that a node list draws: its leaves are the leaf nodes under it, they are distinct, it is as a plan writes it, and its undos
 -- are one level deep. By induction over the nodes.
 use mathlib.Core.Path.{_≡_, refl, sym, ap, subst, _∙_}
-use mathlib.Core.Bool.{Bool, true, false}
+use mathlib.Core.Bool.{Bool, true, false, cond}
 use mathlib.Core.List.{List}
 use mathlib.Core.Logic.{_⊎_, inl, inr}
 use Prim.Native.Nat.{ℕ, _-_, _≤_, _<_, max}
 use native.Mathlib.Omega.{arith}
 use lib.Dec.{eqb}
 use borrow.Author.Tests.{eqb-true, eqb-false}
-use Rattle.blocks.specs.Choose.{pick}
 use Rattle.blocks.proofs.Bounded.{decide}
 use Rattle.process.specs.Process.{sequence, parallel, choice, compensation, handler, Process, leaf, node}
-use Rattle.process.specs.Beginnings.{AsWritten, HasLeaf, Apart, Distinct, rightDepth, undoDepth}
+use Rattle.process.specs.Forms.{formOf}
+use Rattle.process.specs.Leaves.{AsWritten, HasLeaf, Apart, Distinct}
+use Rattle.process.specs.Depth.{rightDepth, undoDepth}
 use Rattle.plan.specs.Nodes.{count, form, left, right, Side, on-left, on-right, Names, EachNamedOnce, Under, itself, NotNested, Descending}
-use Rattle.plan.specs.Tree.{leafKind, formOf, leafOf, compositeOf, processAt}
+use Rattle.plan.specs.Tree.{leafKind, leafOf, compositeOf, processAt}
 use Rattle.plan.specs.Demand1.{Drawn}
 use Rattle.plan.proofs.Fold.{node-ind, fold-leaf, fold-node}
 use Rattle.plan.proofs.Under.{through, first, all-under-last, apart}
@@ -95,7 +96,7 @@ module _ (types b : List ℕ) (down : Descending b) where
   other-depth : (f d : ℕ) → (f ≡ 6 → ⊥) → rightDepth (formOf f) d ≡ d
   other-depth f d h = go (eqb f 3) (eqb f 4) (eqb f 5) (eqb f 6) refl
     where
-      go : (s p c k : Bool) → eqb f 6 ≡ k → rightDepth (pick s sequence (pick p parallel (pick c choice (pick k compensation handler)))) d ≡ d
+      go : (s p c k : Bool) → eqb f 6 ≡ k → rightDepth (cond s sequence (cond p parallel (cond c choice (cond k compensation handler)))) d ≡ d
       go true p c k e = refl
       go false true c k e = refl
       go false false true k e = refl

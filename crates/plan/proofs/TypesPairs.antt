@@ -1,13 +1,12 @@
 -- The tests of the types and of the undo pairs hold exactly where their statements do.
 use mathlib.Core.Path.{_≡_, refl, sym}
-use mathlib.Core.Bool.{Bool, true, false, not, true≢false}
+use mathlib.Core.Bool.{Bool, true, false, not, true≢false, cond}
 use mathlib.Core.List.{List}
 use mathlib.Core.Logic.{_↔_}
 use Prim.Native.Nat.{ℕ, _<_}
 use lib.Dec.{eqb}
 use lib.ListN.{length, getD}
 use borrow.Author.Tests.{leb-true, le-leb, ltb-true, lt-ltb, eqb-true, eqb-false, ne-eqb}
-use Rattle.blocks.specs.Choose.{pick}
 use Rattle.blocks.specs.Bounded.{every}
 use Rattle.blocks.proofs.Bounded.{both-true, every-at, every-all}
 use Rattle.plan.specs.Types.{Types, isType, typesOk}
@@ -28,14 +27,14 @@ types-say b = (to, from)
 apart-says : (i fi j fj sj : ℕ) → (apartOk i fi j fj sj ≡ true) ↔ ((fi ≡ sj → ⊥) × (fi ≡ fj → i ≡ j))
 apart-says i fi j fj sj = (to (eqb fi sj) (eqb i j) (eqb fi fj) refl refl refl, from)
   where
-    to : (a b c : Bool) → eqb fi sj ≡ a → eqb i j ≡ b → eqb fi fj ≡ c → pick a false (pick b true (not c)) ≡ true
+    to : (a b c : Bool) → eqb fi sj ≡ a → eqb i j ≡ b → eqb fi fj ≡ c → cond a false (cond b true (not c)) ≡ true
         → (fi ≡ sj → ⊥) × (fi ≡ fj → i ≡ j)
     to true b c ea eb ec h = absurd (true≢false (sym h))
     to false true c ea eb ec h = (eqb-false fi sj ea, λ _. eqb-true i j eb)
     to false false true ea eb ec h = absurd (true≢false (sym h))
     to false false false ea eb ec h = (eqb-false fi sj ea, λ e. absurd (eqb-false fi fj ec e))
 
-    same : (b : Bool) → eqb i j ≡ b → (fi ≡ fj → i ≡ j) → pick b true (not (eqb fi fj)) ≡ true
+    same : (b : Bool) → eqb i j ≡ b → (fi ≡ fj → i ≡ j) → cond b true (not (eqb fi fj)) ≡ true
     same true e h = refl
     same false e h = rw (ne-eqb fi fj (λ z. eqb-false i j e (h z)))
 

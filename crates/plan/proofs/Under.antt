@@ -2,14 +2,13 @@
 -- says what document 01 does of compensations. By going down from a node to its parts, whose numbers are smaller, and up from a node to
 -- the one place that names it.
 use mathlib.Core.Path.{_≡_, refl, sym, ap, _∙_}
-use mathlib.Core.Bool.{Bool, true, false, not, _||_, true≢false}
+use mathlib.Core.Bool.{Bool, true, false, not, _||_, true≢false, cond}
 use mathlib.Core.List.{List}
 use mathlib.Core.Logic.{_↔_, _⊎_, inl, inr}
 use Prim.Native.Nat.{ℕ, zero, suc, _+_, _-_, _≤_, _<_}
 use native.Mathlib.Omega.{arith}
 use lib.Dec.{eqb}
 use borrow.Author.Tests.{eqb-true, eqb-false, eq-eqb}
-use Rattle.blocks.specs.Choose.{pick}
 use Rattle.blocks.proofs.Bounded.{decide, every-at, every-all}
 use Rattle.plan.specs.Nodes.{count, form, left, right, Side, on-left, on-right, child, Names, EachNamedOnce, Under, itself, named, NotNested, Descending}
 use Rattle.plan.specs.NodeTests.{holding, noCompensation, holds, undoOk, nestedOk}
@@ -22,7 +21,7 @@ left-not-right e = let z : _≡_ {A = ℕ} 0 1 = cc in omega arith
 holding-some : (f : ℕ) (x y : Bool) → (x ≡ true) ⊎ (y ≡ true) → holding f x y ≡ true
 holding-some f x y h = go (eqb f 6) x h
   where
-    go : (t x : Bool) → (x ≡ true) ⊎ (y ≡ true) → pick t true (x || y) ≡ true
+    go : (t x : Bool) → (x ≡ true) ⊎ (y ≡ true) → cond t true (x || y) ≡ true
     go true x h = refl
     go false true h = refl
     go false false (inl e) = absurd (true≢false (sym e))

@@ -5,7 +5,8 @@ use mathlib.Core.List.{List}
 use mathlib.Core.Logic.{_↔_}
 use Prim.Native.Nat.{ℕ, _+_, _-_, _≤_, _<_}
 use lib.ListN.{length, take}
-use Rattle.process.specs.Beginnings.{AsWritten, HasLeaf, Distinct, undoDepth}
+use Rattle.process.specs.Leaves.{AsWritten, HasLeaf, Distinct}
+use Rattle.process.specs.Depth.{Flat}
 use Rattle.plan.specs.Nodes.{count, form, Under}
 use Rattle.plan.specs.PlanFile.{Bytes, PlanFile}
 use Rattle.plan.specs.Reading.{bytesOf, endOf, readOf}
@@ -28,7 +29,7 @@ pub record Drawn (types nodes : List ℕ) : Type 0 where
   pub leaves : (n : ℕ) → HasLeaf n (processOf types nodes) ↔ ((n < count nodes) × (form nodes n < 3))
   pub written : AsWritten (processOf types nodes)
   pub distinct : Distinct (processOf types nodes)
-  pub flat : undoDepth (processOf types nodes) ≤ 1
+  pub flat : Flat (processOf types nodes)
 
 pub record Demand1 : Type 0 where
   -- a file is accepted exactly where it is a plan file

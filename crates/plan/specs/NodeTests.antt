@@ -1,19 +1,18 @@
 -- The tests of a node body, in document 01's order: 6, the rules of the forms; 7, each node but the last named exactly once; 8, no
 -- compensation in an undo side.
-use mathlib.Core.Bool.{Bool, true, false, not, _||_}
+use mathlib.Core.Bool.{Bool, true, false, not, _||_, cond}
 use mathlib.Core.List.{List}
 use Prim.Native.Nat.{ℕ, _+_, _-_}
 use lib.Dec.{ltb, leb, eqb}
-use Rattle.blocks.specs.Choose.{pick}
 use Rattle.blocks.specs.Bounded.{every, total}
 use Rattle.plan.specs.Nodes.{count, form, left, right}
 use Rattle.plan.specs.Fold.{foldAt}
 
 abbrev pub nodeOk : ℕ → ℕ → ℕ → ℕ → ℕ → Bool
 nodeOk actions i f l r =
-    pick (eqb f 0) (pick (ltb l actions) (eqb r 0) false)
-    (pick (ltb f 3) (pick (eqb l 0) (eqb r 0) false)
-    (pick (leb f 7) (pick (ltb l i) (ltb r i) false) false))
+    cond (eqb f 0) (cond (ltb l actions) (eqb r 0) false)
+    (cond (ltb f 3) (cond (eqb l 0) (eqb r 0) false)
+    (cond (leb f 7) (cond (ltb l i) (ltb r i) false) false))
 
 abbrev pub formsOk : ℕ → List ℕ → Bool
 formsOk actions b = every (count b) (λ i. nodeOk actions i (form b i) (left b i) (right b i))
@@ -24,7 +23,7 @@ one true = 1
 one false = 0
 
 abbrev pub naming : ℕ → ℕ → ℕ → ℕ → ℕ
-naming j f l r = pick (leb 3 f) (one (eqb l j) + one (eqb r j)) 0
+naming j f l r = cond (leb 3 f) (one (eqb l j) + one (eqb r j)) 0
 
 abbrev pub timesNamed : List ℕ → ℕ → ℕ
 timesNamed b j = total (count b) (λ i. naming j (form b i) (left b i) (right b i))
@@ -34,7 +33,7 @@ namedOk b = every (count b - 1) (λ j. eqb (timesNamed b j) 1)
 
 -- whether a compensation stands at node i or below it
 abbrev pub holding : ℕ → Bool → Bool → Bool
-holding f l r = pick (eqb f 6) true (l || r)
+holding f l r = cond (eqb f 6) true (l || r)
 
 abbrev pub noCompensation : ℕ → Bool
 noCompensation i = false
@@ -43,11 +42,11 @@ abbrev pub holds : List ℕ → ℕ → Bool
 holds b i = foldAt noCompensation (λ n. holding (form b n)) b i
 
 abbrev pub undoOk : ℕ → Bool → Bool
-undoOk f r = pick (eqb f 6) (not r) true
+undoOk f r = cond (eqb f 6) (not r) true
 
 abbrev pub nestedOk : List ℕ → Bool
 nestedOk b = every (count b) (λ i. undoOk (form b i) (holds b (right b i)))
 
 -- the number of the first check that fails, or 0
 abbrev pub nodesFault : ℕ → List ℕ → ℕ
-nodesFault actions b = pick (formsOk actions b) (pick (namedOk b) (pick (nestedOk b) 0 8) 7) 6
+nodesFault actions b = cond (formsOk actions b) (cond (namedOk b) (cond (nestedOk b) 0 8) 7) 6

@@ -1,11 +1,10 @@
 -- Document 01, kind 2: undo pairs, "two bytes each, an action and its undo action".
-use mathlib.Core.Bool.{Bool, true, false, not}
+use mathlib.Core.Bool.{Bool, true, false, not, cond}
 use mathlib.Core.List.{List}
 use mathlib.Core.Path.{_≡_}
 use Prim.Native.Nat.{ℕ, _+_, _*_, _/_, _<_}
 use lib.Dec.{ltb, eqb}
 use lib.ListN.{length, getD}
-use Rattle.blocks.specs.Choose.{pick}
 use Rattle.blocks.specs.Bounded.{every}
 
 abbrev pub pairCount : List ℕ → ℕ
@@ -29,12 +28,12 @@ pub record Pairs (actions : ℕ) (b : List ℕ) : Type 0 where
 
 -- the test of it: pair i against pair j
 abbrev pub apartOk : ℕ → ℕ → ℕ → ℕ → ℕ → Bool
-apartOk i fi j fj sj = pick (eqb fi sj) false (pick (eqb i j) true (not (eqb fi fj)))
+apartOk i fi j fj sj = cond (eqb fi sj) false (cond (eqb i j) true (not (eqb fi fj)))
 
 abbrev pub pairOk : ℕ → List ℕ → ℕ → Bool
 pairOk actions b i =
-    pick (ltb (first b i) actions)
-    (pick (ltb (second b i) actions) (every (pairCount b) (λ j. apartOk i (first b i) j (first b j) (second b j))) false)
+    cond (ltb (first b i) actions)
+    (cond (ltb (second b i) actions) (every (pairCount b) (λ j. apartOk i (first b i) j (first b j) (second b j))) false)
     false
 
 abbrev pub pairsOk : ℕ → List ℕ → Bool

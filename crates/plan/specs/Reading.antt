@@ -1,11 +1,10 @@
 -- The reader's answer for every list of bytes, in document 01's order of checks: "For each block: heading 1, kind 2, length 3, body 1,
 -- contents; nodes are checked for 6, then 7, then 8. Trailing bytes come last."
-use mathlib.Core.Bool.{Bool, false}
+use mathlib.Core.Bool.{Bool, false, cond}
 use mathlib.Core.List.{List}
 use Prim.Native.Nat.{ℕ, _+_, _*_, _%_}
 use lib.Dec.{leb, eqb}
 use lib.ListN.{length, take, drop}
-use Rattle.blocks.specs.Choose.{pick}
 use Rattle.blocks.specs.Block.{headingAt, bodyFits}
 use Rattle.blocks.specs.declared.Part.{Part}
 use Rattle.blocks.specs.declared.Heading.{Heading}
@@ -23,16 +22,16 @@ use Rattle.plan.specs.declared.Reading.the-variants as reading
 -- bytes of rule.
 abbrev pub lengthOk : ℕ → ℕ → ℕ → Bool
 lengthOk kind most n =
-    pick (eqb kind 2) (pick (eqb (n % 2) 0) (leb n (2 * most)) false)
-    (pick (eqb kind 3) (pick (eqb (n % 3) 0) (pick (leb 1 n) (leb n (3 * most)) false) false)
-    (pick (leb 1 n) (leb n most) false))
+    cond (eqb kind 2) (cond (eqb (n % 2) 0) (leb n (2 * most)) false)
+    (cond (eqb kind 3) (cond (eqb (n % 3) 0) (cond (leb 1 n) (leb n (3 * most)) false) false)
+    (cond (leb 1 n) (leb n most) false))
 
 -- The number of the first check of a body's contents that fails, or 0.
 abbrev pub fault : ℕ → ℕ → List ℕ → ℕ
 fault kind actions b =
-    pick (eqb kind 1) (pick (typesOk b) 0 4)
-    (pick (eqb kind 2) (pick (pairsOk actions b) 0 5)
-    (pick (eqb kind 3) (nodesFault actions b) (pick (ruleOk actions b) 0 9)))
+    cond (eqb kind 1) (cond (typesOk b) 0 4)
+    (cond (eqb kind 2) (cond (pairsOk actions b) 0 5)
+    (cond (eqb kind 3) (nodesFault actions b) (cond (ruleOk actions b) 0 9)))
 
 -- the bytes of a part of the file
 abbrev pub bytesOf : List ℕ → Part → List ℕ
@@ -42,12 +41,12 @@ abbrev pub endOf : Part → ℕ
 endOf p = p .at + p .len
 
 abbrev pub judged : ℕ → Part → Block
-judged n p = pick (eqb n 0) (block.Lies p) (block.Refused n)
+judged n p = cond (eqb n 0) (block.Lies p) (block.Refused n)
 
 abbrev pub bodyAt : List ℕ → ℕ → ℕ → ℕ → ℕ → ℕ → Block
 bodyAt s at kind most actions n =
-    pick (lengthOk kind most n)
-    (pick (bodyFits s at n)
+    cond (lengthOk kind most n)
+    (cond (bodyFits s at n)
     (judged (fault kind actions (take n (drop (at + 4) s))) (record { at = at + 4; len = n }))
     (block.Refused 1))
     (block.Refused 3)
@@ -59,7 +58,7 @@ onHeading Cut next = block.Refused 1
 -- The block of the kind due at `at`: where its body lies, or the number that it is refused by.
 abbrev pub blockAt : List ℕ → ℕ → ℕ → ℕ → ℕ → Block
 blockAt s at kind most actions =
-    onHeading (headingAt s at) (λ k n. pick (eqb k kind) (bodyAt s at kind most actions n) (block.Refused 2))
+    onHeading (headingAt s at) (λ k n. cond (eqb k kind) (bodyAt s at kind most actions n) (block.Refused 2))
 
 abbrev pub onBlock : Block → (Part → Reading) → Reading
 onBlock (block.Lies p) next = next p
@@ -74,7 +73,7 @@ ruleLimit = 127
 -- The four blocks, each from the end of the one before it, and the end of the file. The number of actions is the length of the types.
 abbrev pub withRule : List ℕ → Part → Part → Part → Part → Reading
 withRule s types pairs nodes rule =
-    pick (eqb (endOf rule) (length s))
+    cond (eqb (endOf rule) (length s))
     (reading.Accepted (record { types = types; pairs = pairs; nodes = nodes; rule = rule }))
     (reading.Refused 1)
 

@@ -1,10 +1,9 @@
 // Kind 3: the nodes.
 ghost use mathlib.Core.Path.{_≡_};
-ghost use mathlib.Core.Bool.{false};
+ghost use mathlib.Core.Bool.{false, cond};
 ghost use Prim.Native.Nat.{_≤_, _<_};
 ghost use lib.Dec.{ltb};
 ghost use lib.ListN.{length, getD};
-ghost use Rattle.blocks.specs.Choose.{pick};
 ghost use Rattle.plan.specs.Nodes.{Descending};
 ghost use Rattle.plan.specs.NodeTests.{nodeOk, formsOk, naming, timesNamed, namedOk, holding, undoOk, nestedOk, nodesFault};
 
@@ -112,7 +111,7 @@ fn holding_of(f: u8, l: bool, r: bool) -> bool
 // Whether a compensation stands at the node (`f`, `l`, `r`) or below it, by the table of the nodes before it.
 fn holds_at(held: &[bool; 63], f: u8, l: u8, r: u8) -> bool
     requires { ⌜ (3 ≤ f → (l < 63) × (r < 63)) ⌝ }
-    ensures { λ k. ⌜ k ≡ pick (ltb f 3) false (holding f (getD (now (held .entry)) l false) (getD (now (held .entry)) r false)) ⌝ }
+    ensures { λ k. ⌜ k ≡ cond (ltb f 3) false (holding f (getD (now (held .entry)) l false) (getD (now (held .entry)) r false)) ⌝ }
 {
     if f < 3 {
         return false;

@@ -1,5 +1,5 @@
 pub mod Process
 pub mod Figure2
-pub mod Cells
-pub mod Beginnings
-pub mod TwoLevels
+pub mod Forms
+pub mod Leaves
+pub mod Depth

@@ -1,0 +1,14 @@
+pub mod Interleavings
+pub mod Levels
+pub mod Exact
+pub mod Depth
+pub mod Numbers
+pub mod Table
+pub mod Cells
+pub mod TwoLevels
+pub mod Members
+pub mod Shown
+pub mod Families
+pub mod ActionSets
+pub mod OutcomeChart
+pub mod TriedPlans

@@ -1,0 +1,7 @@
+pub mod Codes
+pub mod Sets
+pub mod Chart
+pub mod Cells
+pub mod Families
+pub mod OutcomeChart
+pub mod TriedPlans
