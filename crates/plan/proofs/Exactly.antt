@@ -13,7 +13,7 @@ use borrow.Author.Tests.{le-leb, eq-eqb}
 use Rattle.blocks.specs.Block.{block}
 use Rattle.plan.specs.Types.{typesOk}
 use Rattle.plan.specs.Pairs.{pairsOk}
-use Rattle.plan.specs.Nodes.{FormRules, EachNamedOnce, NotNested}
+use Rattle.plan.specs.Nodes.{NodeRules}
 use Rattle.plan.specs.NodeTests.{formsOk, namedOk, nestedOk, nodesFault}
 use Rattle.plan.specs.Rule.{ruleOk}
 use Rattle.plan.specs.PlanFile.{Bytes, Items, PlanFile}
@@ -30,31 +30,26 @@ use Rattle.plan.proofs.Accepted.{Bodies, accepted-bodies, bodies-accept
 use Rattle.plan.proofs.Blocks.{body-length, block-here, block-lies}
 
 -- a number that stands for a fault stands for none only where the test holds
-none : (t : Bool) (n : ℕ) → cond t 0 (n + 1) ≡ 0 → t ≡ true
+pub none : (t : Bool) (n : ℕ) → cond t 0 (n + 1) ≡ 0 → t ≡ true
 none true n h = refl
 none false n h = absurd (omega arith)
 
--- what the three checks of the nodes say, where none fails
-pub record Sound (actions : ℕ) (b : List ℕ) : Type 0 where
-  pub keep : FormRules actions b
-  pub once : EachNamedOnce b
-  pub flat : NotNested b
-
+-- none of the three checks of the nodes fails
 three : (x y z : Bool) → _≡_ {A = ℕ} (cond x (cond y (cond z 0 8) 7) 6) 0 → (x ≡ true) × (y ≡ true) × (z ≡ true)
 three true true true h = (refl, refl, refl)
 three true true false h = absurd (omega arith)
 three true false z h = absurd (omega arith)
 three false y z h = absurd (omega arith)
 
-pub nodes-say : (actions : ℕ) (b : List ℕ) → (nodesFault actions b ≡ 0) ↔ Sound actions b
+pub nodes-say : (actions : ℕ) (b : List ℕ) → (nodesFault actions b ≡ 0) ↔ NodeRules actions b
 nodes-say actions b = (to, from)
   where
-    to : nodesFault actions b ≡ 0 → Sound actions b
+    to : nodesFault actions b ≡ 0 → NodeRules actions b
     to h =
         let (x, y, z) = three (formsOk actions b) (namedOk b) (nestedOk b) h in
         record { keep = forms-say actions b .0 x; once = named-say b .0 y; flat = nested-say b (descending actions b x) .0 z }
 
-    from : Sound actions b → nodesFault actions b ≡ 0
+    from : NodeRules actions b → nodesFault actions b ≡ 0
     from h =
         let x = forms-say actions b .1 (h .keep) in
         rw (x, named-say b .1 (h .once), nested-say b (descending actions b x) .1 (h .flat))
@@ -103,7 +98,6 @@ module _ (actionLimit pairLimit : ℕ) (limit : actionLimit ≤ 128) (s : List �
         let p = sized-pairs pairLimit (l .pairs .len) (b .pairs .permitted) in
         let n = sized-nodes 63 (l .nodes .len) (b .nodes .permitted) in
         let r = sized-rule 127 (l .rule .len) (b .rule .permitted) in
-        let sound = nodes-say (length T) N .0 (rw (← actions) (b .nodes .faultless)) in
         record {
           types = T;
           pairs = P;
@@ -115,9 +109,7 @@ module _ (actionLimit pairLimit : ℕ) (limit : actionLimit ≤ 128) (s : List �
           pairs-size = record { number = l .pairs .len / 2; whole = omega (arith, pairs-long, p .whole); enough = omega arith; few = omega (arith, p .high) };
           pairs-hold = pairs-say (length T) P .0 (none (pairsOk (length T) P) 4 (rw (← actions) (b .pairs .faultless)));
           nodes-size = record { number = l .nodes .len / 3; whole = omega (arith, nodes-long, n .whole); enough = omega (arith, n .low, n .whole); few = omega (arith, n .high) };
-          nodes-keep = sound .keep;
-          nodes-once = sound .once;
-          nodes-flat = sound .flat;
+          nodes-hold = nodes-say (length T) N .0 (rw (← actions) (b .nodes .faultless));
           rule-size = record { number = l .rule .len; whole = omega (arith, rule-long); enough = r .low; few = omega (arith, r .high) };
           rule-holds = rule-say (length T) (omega (arith, actions, t .high)) R .0 (none (ruleOk (length T) R) 8 (rw (← actions) (b .rule .faultless)));
         }
@@ -144,7 +136,6 @@ module _ (actionLimit pairLimit : ℕ) (limit : actionLimit ≤ 128) (s : List �
         let R = f .rule in
         let n = length T in
         let e = f .blocks in
-        let sound : Sound n N = record { keep = f .nodes-keep; once = f .nodes-once; flat = f .nodes-flat } in
         let few : n ≤ 128 = omega (arith, f .types-size .whole, f .types-size .few) in
         let upto3 : s ≡ (block 1 T ++ block 2 P) ++ (block 3 N ++ block 4 R) = e ∙ sym (append-assoc (block 1 T) (block 2 P) (block 3 N ++ block 4 R)) in
         let upto4 : s ≡ ((block 1 T ++ block 2 P) ++ block 3 N) ++ (block 4 R ++ []) =
@@ -152,7 +143,7 @@ module _ (actionLimit pairLimit : ℕ) (limit : actionLimit ≤ 128) (s : List �
         record {
           types = block-lies [] T (block 2 P ++ (block 3 N ++ block 4 R)) s 0 1 actionLimit 0 e refl (permit-bytes 1 actionLimit T (f .types-size)) (rw (types-say T .1 (f .types-hold)));
           pairs = block-lies (block 1 T) P (block 3 N ++ block 4 R) s (4 + n) 2 pairLimit n e (omega arith) (permit-pairs pairLimit P (f .pairs-size)) (rw (pairs-say n P .1 (f .pairs-hold)));
-          nodes = block-lies (block 1 T ++ block 2 P) N (block 4 R) s (4 + n + 4 + length P) 3 63 n upto3 (simp length-append (omega arith)) (permit-nodes 63 N (f .nodes-size)) (nodes-say n N .1 sound);
+          nodes = block-lies (block 1 T ++ block 2 P) N (block 4 R) s (4 + n + 4 + length P) 3 63 n upto3 (simp length-append (omega arith)) (permit-nodes 63 N (f .nodes-size)) (nodes-say n N .1 (f .nodes-hold));
           rule = block-lies ((block 1 T ++ block 2 P) ++ block 3 N) R [] s (4 + n + 4 + length P + 4 + length N) 4 127 n upto4 (simp length-append (omega arith)) (permit-bytes 4 127 R (f .rule-size)) (rw (rule-say n few R .1 (f .rule-holds)));
           end = rw upto4 (simp length-append (omega arith));
         }

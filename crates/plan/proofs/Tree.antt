@@ -3,18 +3,19 @@
 use mathlib.Core.Path.{_≡_, refl, sym, ap, subst, _∙_}
 use mathlib.Core.Bool.{Bool, true, false, cond}
 use mathlib.Core.List.{List}
-use mathlib.Core.Logic.{_⊎_, inl, inr}
+use mathlib.Core.Logic.{_↔_, _⊎_, inl, inr}
 use Prim.Native.Nat.{ℕ, _-_, _≤_, _<_, max}
 use native.Mathlib.Omega.{arith}
 use lib.Dec.{eqb}
 use borrow.Author.Tests.{eqb-true, eqb-false}
 use Rattle.blocks.proofs.Bounded.{decide}
-use Rattle.process.specs.Process.{sequence, parallel, choice, compensation, handler, Process, leaf, node}
+use Rattle.process.specs.Process.{Kind, sequence, parallel, choice, compensation, handler, Process, leaf, node}
 use Rattle.process.specs.Forms.{formOf}
-use Rattle.process.specs.Leaves.{AsWritten, HasLeaf, Apart, Distinct}
+use Rattle.process.specs.Leaves.{AsWritten, SomeLeaf, HasLeaf, Apart, Distinct}
 use Rattle.process.specs.Depth.{rightDepth, undoDepth}
 use Rattle.plan.specs.Nodes.{count, form, left, right, Side, on-left, on-right, Names, EachNamedOnce, Under, itself, NotNested, Descending}
-use Rattle.plan.specs.Tree.{leafKind, leafOf, compositeOf, processAt}
+use Rattle.plan.specs.Tree.{leafKind, leafOf, compositeOf, processAt, processOf}
+use Rattle.plan.specs.PlanFile.{Runnable}
 use Rattle.plan.specs.Demand1.{Drawn}
 use Rattle.plan.proofs.Fold.{node-ind, fold-leaf, fold-node}
 use Rattle.plan.proofs.Under.{through, first, all-under-last, apart}
@@ -46,38 +47,48 @@ module _ (types b : List ℕ) (down : Descending b) where
   names-right : (i : ℕ) → i < count b → 3 ≤ form b i → Names b i on-right (right b i)
   names-right i c f = record { present = c; composite = f; is = refl }
 
-  -- a leaf of the process is a leaf node under the node
-  record LeafNode (i n : ℕ) : Type 0 where
+  -- a leaf node under node i
+  pub record LeafNode (i n : ℕ) : Type 0 where
     pub under : Under b i n
     pub present : n < count b
     pub plain : form b n < 3
 
+  module _ (F : ℕ → Kind → Type 0) where
+    -- some leaf of the process is so, exactly where some leaf node is
+    abbrev Found : ℕ → Type 0
+    Found i = (n : ℕ) × LeafNode i n × F n (leafKind types b n)
+
+    found-side : (i c : ℕ) {s : Side} → Names b i s c → Found c → Found i
+    found-side i c m (n, k, f) = (n, record { under = through b m (k .under); present = k .present; plain = k .plain }, f)
+
+    leaf-found : (i : ℕ) → i < count b → SomeLeaf F (at i) → Found i
+    leaf-found = node-ind b down (λ i. SomeLeaf F (at i) → Found i)
+        (λ i c f h. (i, record { under = itself; present = c; plain = f }, subst (SomeLeaf F) (process-leaf i f) h))
+        (λ i c f l r h. side i c f l r (subst (SomeLeaf F) (process-node i c f) h))
+      where
+        side : (i : ℕ) → i < count b → 3 ≤ form b i → (SomeLeaf F (at (left b i)) → Found (left b i)) → (SomeLeaf F (at (right b i)) → Found (right b i))
+            → SomeLeaf F (at (left b i)) ⊎ SomeLeaf F (at (right b i)) → Found i
+        side i c f l r (inl h) = found-side i (left b i) (names-left i c f) (l h)
+        side i c f l r (inr h) = found-side i (right b i) (names-right i c f) (r h)
+
+    found-leaf : (i : ℕ) → i < count b → Found i → SomeLeaf F (at i)
+    found-leaf = node-ind b down (λ i. Found i → SomeLeaf F (at i))
+        (λ i c f (n, k, h). subst (SomeLeaf F) (sym (process-leaf i f)) (subst (λ (m : ℕ). F m (leafKind types b m)) (sym (here i f n (first b (k .under)))) h))
+        (λ i c f l r (n, k, h). subst (SomeLeaf F) (sym (process-node i c f)) (side i f l r n k h (first b (k .under))))
+      where
+        here : (i : ℕ) → form b i < 3 → (n : ℕ) → (i ≡ n) ⊎ ((s : Side) × (c : ℕ) × Names b i s c × Under b c n) → i ≡ n
+        here i f n (inl e) = e
+        here i f n (inr (s, c, m, u)) = absurd (omega (arith, m .composite))
+
+        side : (i : ℕ) → 3 ≤ form b i → (Found (left b i) → SomeLeaf F (at (left b i))) → (Found (right b i) → SomeLeaf F (at (right b i)))
+            → (n : ℕ) → LeafNode i n → F n (leafKind types b n)
+            → (i ≡ n) ⊎ ((s : Side) × (c : ℕ) × Names b i s c × Under b c n) → SomeLeaf F (at (left b i)) ⊎ SomeLeaf F (at (right b i))
+        side i f l r n k h (inl e) = absurd (omega (arith, ap (form b) e, k .plain))
+        side i f l r n k h (inr (on-left, c, m, u)) = inl (l (n, record { under = rw (m .is) u; present = k .present; plain = k .plain }, h))
+        side i f l r n k h (inr (on-right, c, m, u)) = inr (r (n, record { under = rw (m .is) u; present = k .present; plain = k .plain }, h))
+
   leaf-node : (n i : ℕ) → i < count b → HasLeaf n (at i) → LeafNode i n
-  leaf-node n = node-ind b down (λ i. HasLeaf n (at i) → LeafNode i n)
-      (λ i c f h.
-      let e : n ≡ i = subst (HasLeaf n) (process-leaf i f) h in
-      rw e (record { under = itself; present = c; plain = f }))
-      (λ i c f l r h. side i c f l r (subst (HasLeaf n) (process-node i c f) h))
-    where
-      side : (i : ℕ) → i < count b → 3 ≤ form b i → (HasLeaf n (at (left b i)) → LeafNode (left b i) n) → (HasLeaf n (at (right b i)) → LeafNode (right b i) n)
-          → HasLeaf n (at (left b i)) ⊎ HasLeaf n (at (right b i)) → LeafNode i n
-      side i c f l r (inl h) = let k = l h in record { under = through b (names-left i c f) (k .under); present = k .present; plain = k .plain }
-      side i c f l r (inr h) = let k = r h in record { under = through b (names-right i c f) (k .under); present = k .present; plain = k .plain }
-
-  node-leaf : (n i : ℕ) → i < count b → LeafNode i n → HasLeaf n (at i)
-  node-leaf n = node-ind b down (λ i. LeafNode i n → HasLeaf n (at i))
-      (λ i c f k. subst (HasLeaf n) (sym (process-leaf i f)) (itself-leaf i f (first b (k .under))))
-      (λ i c f l r k. subst (HasLeaf n) (sym (process-node i c f)) (side i f l r k (first b (k .under))))
-    where
-      itself-leaf : (i : ℕ) → form b i < 3 → (i ≡ n) ⊎ ((s : Side) × (c : ℕ) × Names b i s c × Under b c n) → n ≡ i
-      itself-leaf i f (inl e) = sym e
-      itself-leaf i f (inr (s, c, m, u)) = absurd (omega (arith, m .composite))
-
-      side : (i : ℕ) → 3 ≤ form b i → (LeafNode (left b i) n → HasLeaf n (at (left b i))) → (LeafNode (right b i) n → HasLeaf n (at (right b i))) → LeafNode i n
-          → (i ≡ n) ⊎ ((s : Side) × (c : ℕ) × Names b i s c × Under b c n) → HasLeaf n (at (left b i)) ⊎ HasLeaf n (at (right b i))
-      side i f l r k (inl e) = absurd (omega (arith, ap (form b) e, k .plain))
-      side i f l r k (inr (on-left, c, m, u)) = inl (l (record { under = rw (m .is) u; present = k .present; plain = k .plain }))
-      side i f l r k (inr (on-right, c, m, u)) = inr (r (record { under = rw (m .is) u; present = k .present; plain = k .plain }))
+  leaf-node n i c h = let (m, k, e) = leaf-found (λ m kind. n ≡ m) i c h in rw e k
 
   module _ (once : EachNamedOnce b) where
     distinct : (i : ℕ) → i < count b → Distinct (at i)
@@ -128,17 +139,33 @@ module _ (types b : List ℕ) (down : Descending b) where
             most _ _ l (rw (six, none) (omega arith))
         go i c f l r (inr e) = most _ _ l (rw (other-depth (form b i) (undoDepth (at (right b i))) (eqb-false (form b i) 6 e)) r)
 
-pub drawn : (types b : List ℕ) → 0 < count b → Descending b → EachNamedOnce b → NotNested b → Drawn types b
-drawn types b some down once flat =
-    let last = count b - 1 in
-    let top : last < count b = omega arith in
-    record {
-      whole = all-under-last b down once;
-      leaves = λ n. (
-        λ h. let k = leaf-node types b down n last top h in (k .present, k .plain),
-        λ (l, f). node-leaf types b down n last top (record { under = all-under-last b down once n l; present = l; plain = f }),
-      );
-      written = written types b down last top;
-      distinct = distinct types b down once last top;
-      flat = shallow types b down flat last top;
-    }
+module _ (types b : List ℕ) (r : Runnable types b) where
+  pub parts-smaller : Descending b
+  parts-smaller i c f = r .nodes-hold .keep i c .parts f
+
+  last-present : count b - 1 < count b
+  last-present = omega (arith, r .nodes-some)
+
+  -- some leaf of the whole process is so, exactly where some leaf node of the plan is
+  pub some-leaf : (F : ℕ → Kind → Type 0) → SomeLeaf F (processOf types b) ↔ ((n : ℕ) × (n < count b) × (form b n < 3) × F n (leafKind types b n))
+  some-leaf F = (to, from)
+    where
+      to : SomeLeaf F (processOf types b) → (n : ℕ) × (n < count b) × (form b n < 3) × F n (leafKind types b n)
+      to h = let (n, k, f) = leaf-found types b parts-smaller F (count b - 1) last-present h in (n, k .present, k .plain, f)
+
+      from : ((n : ℕ) × (n < count b) × (form b n < 3) × F n (leafKind types b n)) → SomeLeaf F (processOf types b)
+      from (n, l, p, f) =
+          found-leaf types b parts-smaller F (count b - 1) last-present
+          (n, record { under = all-under-last b parts-smaller (r .nodes-hold .once) n l; present = l; plain = p }, f)
+
+  pub drawn : Drawn types b
+  drawn = record {
+    whole = all-under-last b parts-smaller (r .nodes-hold .once);
+    leaves = λ n. (
+      λ h. let (m, l, p, e) = some-leaf (λ m k. n ≡ m) .0 h in rw e (l, p),
+      λ (l, p). some-leaf (λ m k. n ≡ m) .1 (n, l, p, refl),
+    );
+    written = written types b parts-smaller (count b - 1) last-present;
+    distinct = distinct types b parts-smaller (r .nodes-hold .once) (count b - 1) last-present;
+    flat = shallow types b parts-smaller (r .nodes-hold .flat) (count b - 1) last-present;
+  }

@@ -64,3 +64,9 @@ pub data Under (b : List ℕ) (i : ℕ) : ℕ → Type 0 where
 -- "No form 6 stands anywhere in the right side of another form 6."
 abbrev pub NotNested : List ℕ → Type 0
 NotNested b = (i j : ℕ) → i < count b → form b i ≡ 6 → Under b (right b i) j → j < count b → form b j ≡ 6 → ⊥
+
+-- the three rules of a node body together
+pub record NodeRules (actions : ℕ) (b : List ℕ) : Type 0 where
+  pub keep : FormRules actions b
+  pub once : EachNamedOnce b
+  pub flat : NotNested b

@@ -7,7 +7,7 @@ use lib.ListN.{length, getD}
 use Rattle.blocks.specs.Block.{block}
 use Rattle.plan.specs.Types.{Types}
 use Rattle.plan.specs.Pairs.{Pairs}
-use Rattle.plan.specs.Nodes.{FormRules, EachNamedOnce, NotNested}
+use Rattle.plan.specs.Nodes.{NodeRules}
 use Rattle.plan.specs.Rule.{Rule}
 
 -- each element is a byte
@@ -36,9 +36,15 @@ pub record PlanFile (actionLimit pairLimit : ℕ) (s : List ℕ) : Type 0 where
   pub pairs-hold : Pairs (length types) pairs
   -- "Kind 3, nodes: three bytes each (form, left, right), 1 to 63 nodes"
   pub nodes-size : Items 3 1 63 nodes
-  pub nodes-keep : FormRules (length types) nodes
-  pub nodes-once : EachNamedOnce nodes
-  pub nodes-flat : NotNested nodes
+  pub nodes-hold : NodeRules (length types) nodes
   -- "Kind 4, rule: 1 to 127 bytes in postfix order."
   pub rule-size : Items 1 1 127 rule
   pub rule-holds : Rule (length types) rule
+
+-- What running a plan rests on: its types and its nodes, as an accepted file has them.
+pub record Runnable (types nodes : List ℕ) : Type 0 where
+  pub types-few : length types ≤ 10
+  pub types-hold : Types types
+  pub nodes-some : 3 ≤ length nodes
+  pub nodes-few : length nodes ≤ 189
+  pub nodes-hold : NodeRules (length types) nodes
