@@ -1,0 +1,17 @@
+-- `job::state::type_permits` meets its contract: each return by the tests that led there.
+use borrow.Author.Needs.{needs}
+use borrow.Author.Tests.{eq-eqb, ne-eqb}
+use Rattle.job.proofs.state.type_permits.Statement.{statement}
+use Rattle.job.proofs.state.type_permits.Tie as tie
+
+returns : tie.Need-returns
+returns c = simp (eq-eqb _ _ (c .if1 .taken))
+
+returns-2 : tie.Need-returns-2
+returns-2 c = simp (eq-eqb _ _ (c .if2 .taken), ne-eqb _ _ (c .before .if1 .left))
+
+returns-3 : tie.Need-returns-3
+returns-3 c = simp (ne-eqb _ _ (c .if2 .left), ne-eqb _ _ (c .before .if1 .left))
+
+pub type-permits-spec : {M : Type 1} → statement M
+type-permits-spec = tie.close (tie.spec returns returns-2 returns-3)
