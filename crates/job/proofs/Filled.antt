@@ -1,5 +1,5 @@
 -- The table of cells that `told_by` fills in the order of the nodes: each entry so far is the fold of its node.
-use mathlib.Core.Path.{_≡_, refl, _∙_}
+use mathlib.Core.Path.{_≡_, _∙_}
 use mathlib.Core.Bool.{false, cond}
 use mathlib.Core.List.{List}
 use Prim.Native.Nat.{ℕ, _+_, _≤_, _<_}

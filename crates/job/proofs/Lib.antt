@@ -2,3 +2,5 @@ pub mod Sides
 pub mod Filled
 pub mod May
 pub mod Replays
+pub mod Bytes
+pub mod Tidy

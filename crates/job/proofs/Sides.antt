@@ -1,13 +1,12 @@
 -- The two other bytes of a node are below the number of entries of a table of nodes: a composite names smaller nodes, and a leaf an action
 -- or nothing.
 use mathlib.Core.Path.{_≡_}
-use mathlib.Core.Bool.{Bool, true, false}
+use mathlib.Core.Bool.{true, false}
 use mathlib.Core.List.{List}
 use mathlib.Core.Logic.{_⊎_, inl, inr}
 use Prim.Native.Nat.{ℕ, _<_}
 use native.Mathlib.Omega.{arith}
 use lib.Dec.{eqb, ltb}
-use lib.ListN.{length}
 use borrow.Author.Tests.{eqb-true, eqb-false, ltb-true, ltb-false}
 use Rattle.blocks.proofs.Bounded.{decide}
 use Rattle.plan.specs.Nodes.{count, form, left, right}

@@ -29,7 +29,7 @@ abbrev pub cellsAt : List ℕ → List ℕ → ℕ → Cells
 cellsAt b table i = foldAt (leafCells table) (nodeCells b) b i
 
 -- What the whole process tells.
-abbrev pub toldBy : List ℕ → List ℕ → Told
+unfoldable pub toldBy : List ℕ → List ℕ → Told
 toldBy b table = toldTwo (cellsAt b table (count b - 1))
 
 -- The type of a leaf: its action's, and as a skip always succeeds and a throw always fails, 1 and 2, which are their forms' numbers.
@@ -44,11 +44,11 @@ abbrev pub isNext : ℕ → ℕ → Bool
 isNext next n = eqb (next / 2 ^ n % 2) 1
 
 -- May the entry come now? Its leaf is one that may come next, and its type permits its outcome.
-abbrev pub leafPermits : List ℕ → List ℕ → ℕ → ℕ → Bool
+unfoldable pub leafPermits : List ℕ → List ℕ → ℕ → ℕ → Bool
 leafPermits types b n outcome =
     cond (ltb n (count b)) (cond (ltb (form b n) 3) (typePermits (leafType types b n) outcome) false) false
 
-abbrev pub mayCome : List ℕ → List ℕ → List ℕ → ℕ → ℕ → Bool
+unfoldable pub mayCome : List ℕ → List ℕ → List ℕ → ℕ → ℕ → Bool
 mayCome types b table n outcome = cond (leafPermits types b n outcome) (isNext (toldBy b table .next) n) false
 
 -- The table at the start.

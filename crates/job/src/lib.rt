@@ -1,5 +1,19 @@
 // The runner: a job carries its plan and its record so far, and lets through exactly the beginnings of its plan's runs.
+use blocks::Part;
+use plan::Layout;
+use plan::Reading;
+use runs::cells::Ended;
+
 mod state;
+
+ghost use mathlib.Core.Path.{_≡_};
+ghost use Prim.Native.Nat.{_≤_, _<_};
+ghost use mathlib.Core.Bool.{true, cond};
+ghost use lib.Dec.{ltb, eqb};
+ghost use lib.ListN.{length};
+ghost use Rattle.plan.specs.PlanFile.{Runnable};
+ghost use Rattle.plan.specs.Reading.{bytesOf, readOf, endOf as partEnd};
+ghost use Rattle.job.specs.Job.{endOf, saying, refusal, noJob, freshJob, startWith, startOf, zerosFrom, tidy, withEntry, isOpen, stalled, afterEntry, takeWith, takeOn, takeOf, planOf};
 
 // An entry of a run: the leaf's node number, then 1 (finished) or 2 (failed).
 pub struct Entry {
@@ -40,4 +54,248 @@ pub struct Job {
 pub struct Taken {
     pub answer: Answer,
     pub job: Job,
+}
+
+fn end_of(e: Ended) -> End
+    ensures { λ r. ⌜ r ≡ endOf e ⌝ }
+{
+    match e {
+        Ended::Open => End::Open,
+        Ended::Succeeded => End::MayEnd(Status::Succeeded),
+        Ended::Failed => End::MayEnd(Status::Failed),
+    }
+}
+
+fn say(t: runs::cells::Told) -> Told
+    ensures { λ r. ⌜ r ≡ saying t ⌝ }
+{
+    let ended = t.ended;
+    Told {
+        next: t.next,
+        end: end_of(ended),
+    }
+}
+
+fn refuse(number: u8, job: Job) -> Taken
+    ensures { λ r. ⌜ r ≡ refusal number job ⌝ }
+{
+    Taken {
+        answer: Answer::Refused(number),
+        job,
+    }
+}
+
+// Whether all bytes from `at` on are 0.
+fn zeros_from(s: &[u8], at: usize) -> bool
+    ensures { λ r. ⌜ r ≡ zerosFrom (now (s .entry)) at ⌝ }
+{
+    let mut i = 0;
+    while i < s.len() {
+        if !zero_past(i, at, s[i]) {
+            return false;
+        }
+        i += 1;
+    }
+    true
+}
+
+fn zero_past(i: usize, at: usize, x: u8) -> bool
+    ensures { λ r. ⌜ r ≡ cond (ltb i at) true (eqb x 0) ⌝ }
+{
+    if i < at {
+        return true;
+    }
+    x == 0
+}
+
+// Whether the lengths are in range and the bytes past the plan file and past the record are 0.
+fn is_tidy(j: Job) -> bool
+    ensures { λ r. ⌜ r ≡ tidy j ⌝ }
+{
+    let file = j.file;
+    let entries = j.entries;
+    if j.file_len <= 360 {
+        if j.taken < 63 {
+            if zeros_from(&file, j.file_len) {
+                return zeros_from(&entries, 2 * j.taken);
+            }
+            return false;
+        }
+        return false;
+    }
+    false
+}
+
+fn is_open(e: Ended) -> bool
+    ensures { λ r. ⌜ r ≡ isOpen e ⌝ }
+{
+    match e {
+        Ended::Open => true,
+        Ended::Succeeded => false,
+        Ended::Failed => false,
+    }
+}
+
+// Whether the run neither ends nor goes on.
+fn is_stalled(t: runs::cells::Told) -> bool
+    ensures { λ r. ⌜ r ≡ stalled t ⌝ }
+{
+    let ended = t.ended;
+    if is_open(ended) {
+        return t.next == 0;
+    }
+    false
+}
+
+// The job with one entry more.
+fn with_entry(j: Job, e: Entry) -> Job
+    requires { ⌜ j .taken < 63 ⌝ }
+    ensures { λ r. ⌜ r ≡ withEntry j e ⌝ }
+{
+    let file = j.file;
+    let taken = j.taken;
+    let mut entries = j.entries;
+    entries[2 * taken] = e.leaf;
+    entries[2 * taken + 1] = e.outcome;
+    Job {
+        file,
+        file_len: j.file_len,
+        entries,
+        taken: taken + 1,
+    }
+}
+
+// An entry that may come: 13 where the run then stalls.
+fn after_entry(types: &[u8], nodes: &[u8], table: [u8; 63], j: Job, e: Entry) -> Taken
+    requires { ⌜ Runnable (now types) (now nodes) × (j .taken < 63) × (e .leaf < 63) ⌝ }
+    ensures { λ r. ⌜ r ≡ afterEntry (now (nodes .entry)) table j e ⌝ }
+{
+    let mut next = table;
+    let n = blocks::wide(e.leaf);
+    next[n] = e.outcome;
+    let told = state::told_by(types, nodes, &next);
+    if is_stalled(told) {
+        return refuse(13, j);
+    }
+    Taken {
+        answer: Answer::Told(say(told)),
+        job: with_entry(j, e),
+    }
+}
+
+// An entry to a job of a plan with these types and nodes.
+fn take_with(types: &[u8], nodes: &[u8], j: Job, e: Entry) -> Taken
+    requires { ⌜ Runnable (now types) (now nodes) × (j .taken < 63) ⌝ }
+    ensures { λ r. ⌜ r ≡ takeWith (now (types .entry)) (now (nodes .entry)) j e ⌝ }
+{
+    let entries = j.entries;
+    let state = state::state_after(types, nodes, &entries, j.taken);
+    if !state.ok {
+        return refuse(11, j);
+    }
+    let table = state.table;
+    if !state::may_come(types, nodes, &table, e.leaf, e.outcome) {
+        return refuse(11, j);
+    }
+    after_entry(types, nodes, table, j, e)
+}
+
+// What a start that is refused hands back.
+fn no_job() -> Job
+    ensures { λ r. ⌜ r ≡ noJob ⌝ }
+{
+    Job {
+        file: [0u8; 360],
+        file_len: 0,
+        entries: [0u8; 126],
+        taken: 0,
+    }
+}
+
+// The fresh job of a plan file.
+fn fresh_job(s: &[u8]) -> Job
+    requires { ⌜ length (now s) ≤ 360 ⌝ }
+    ensures { λ r. ⌜ r ≡ freshJob (now (s .entry)) ⌝ }
+{
+    let mut file = [0u8; 360];
+    blocks::copy(&mut file, 0, s);
+    Job {
+        file,
+        file_len: s.len(),
+        entries: [0u8; 126],
+        taken: 0,
+    }
+}
+
+// The bytes of a part of a plan file.
+fn part_of(s: &[u8], p: Part) -> &[u8]
+    requires { ⌜ partEnd p ≤ length (now s) ⌝ }
+    ensures { λ r. ⌜ now r ≡ bytesOf (now (s .entry)) p ⌝ }
+{
+    let at = p.at;
+    let end = at + p.len;
+    &s[at..end]
+}
+
+// The job that a start makes from a plan file with this layout.
+fn start_with(s: &[u8], l: Layout) -> Taken
+    requires { ⌜ readOf (now s) ≡ Reading.Accepted l ⌝ }
+    ensures { λ r. ⌜ r ≡ startWith (now (s .entry)) l ⌝ }
+{
+    let table = [0u8; 63];
+    let told = state::told_by(part_of(s, l.types), part_of(s, l.nodes), &table);
+    Taken {
+        answer: Answer::Told(say(told)),
+        job: fresh_job(s),
+    }
+}
+
+// An entry to a job whose plan file is `s`, with this layout.
+fn take_from(s: &[u8], l: Layout, j: Job, e: Entry) -> Taken
+    requires { ⌜ (readOf (now s) ≡ Reading.Accepted l) × (j .taken < 63) ⌝ }
+    ensures { λ r. ⌜ r ≡ takeWith (bytesOf (now (s .entry)) (l .types)) (bytesOf (now (s .entry)) (l .nodes)) j e ⌝ }
+{
+    take_with(part_of(s, l.types), part_of(s, l.nodes), j, e)
+}
+
+// An entry to a job that carries the plan file `s`.
+fn take_in(s: &[u8], j: Job, e: Entry) -> Taken
+    requires { ⌜ (now s ≡ planOf j) × (j .taken < 63) ⌝ }
+    ensures { λ r. ⌜ r ≡ takeOn j e (readOf (planOf j)) ⌝ }
+{
+    match plan::read(s) {
+        Reading::Refused(_) => refuse(11, j),
+        Reading::Accepted(l) => take_from(s, l, j, e),
+    }
+}
+
+impl Job {
+    // The limits of a plan file.
+    pub const MOST_ACTIONS: usize = 10;
+
+    pub const MOST_NODES: usize = 63;
+
+    pub const MOST_RULE: usize = 127;
+
+    // Starts a job from the bytes of a plan file.
+    pub fn start(file: &[u8]) -> Taken
+        ensures { λ r. ⌜ r ≡ startOf (now (file .entry)) ⌝ }
+    {
+        match plan::read(file) {
+            Reading::Refused(n) => refuse(n, no_job()),
+            Reading::Accepted(l) => start_with(file, l),
+        }
+    }
+
+    // Takes an entry, or refuses it and hands the job back unchanged.
+    pub fn take(self, e: Entry) -> Taken
+        ensures { λ r. ⌜ r ≡ takeOf self e ⌝ }
+    {
+        if !is_tidy(self) {
+            return refuse(11, self);
+        }
+        let file = self.file;
+        let n = self.file_len;
+        take_in(&file[..n], self, e)
+    }
 }

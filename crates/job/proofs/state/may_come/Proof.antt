@@ -2,7 +2,7 @@
 use borrow.Author.Needs.{needs}
 use mathlib.Core.Path.{_≡_, sym, _∙_}
 use native.Mathlib.Omega.{arith}
-use Rattle.job.specs.State.{leafPermits}
+use Rattle.job.specs.State.{leafPermits, mayCome}
 use Rattle.job.proofs.May.{permits-present}
 use Rattle.job.proofs.state.may_come.Statement.{statement}
 use Rattle.job.proofs.state.may_come.Tie as tie
@@ -27,10 +27,12 @@ shr-result c =
     rw (c .before .before .before .before .wide .ensures) (omega (arith, s .pre .nodes-few))
 
 returns : tie.Need-returns
+unfolding mayCome
 returns c =
     rw (sym (permitted (c .before .before .before)) ∙ c .before .before .if1 .taken, c .before .told-by .ensures, c .before .before .before .before .wide .ensures)
 
 returns-2 : tie.Need-returns-2
+unfolding mayCome
 returns-2 c = rw (sym (permitted (c .before)) ∙ c .if1 .left)
 
 pub may-come-spec : {M : Type 1} → statement M

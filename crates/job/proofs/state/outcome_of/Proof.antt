@@ -1,5 +1,4 @@
 -- `job::state::outcome_of` meets its contract: each return by the tests that led there.
-use borrow.Author.Needs.{needs}
 use borrow.Author.Tests.{eq-eqb, ne-eqb}
 use Rattle.job.proofs.state.outcome_of.Statement.{statement}
 use Rattle.job.proofs.state.outcome_of.Tie as tie

@@ -1,6 +1,6 @@
 -- `job::state::told_by` meets its contract: the cells of the nodes passed are filled in, each part of a node before it.
-use mathlib.Core.Path.{_≡_, refl, sym, ap, _∙_}
-use Prim.Native.Nat.{_+_, _-_, _*_, _/_, _≤_, _<_}
+use mathlib.Core.Path.{_≡_, refl, ap, _∙_}
+use Prim.Native.Nat.{_-_, _/_, _<_}
 use native.Mathlib.Omega.{arith}
 use mathlib.Core.Bool.{cond}
 use lib.Dec.{ltb}
@@ -9,7 +9,7 @@ use borrow.Author.Needs.{needs}
 use Rattle.plan.specs.Nodes.{count, form, left, right}
 use Rattle.plan.proofs.Tree.{parts-smaller}
 use Rattle.runs.specs.TwoLevels.{leafTwo, nodeTwo, toldTwo}
-use Rattle.job.specs.State.{outcomeOf}
+use Rattle.job.specs.State.{outcomeOf, toldBy}
 use Rattle.job.proofs.Filled.{blank, Filled, filled-none, filled-more}
 use Rattle.job.proofs.Sides.{left-small, right-small}
 use Rattle.job.proofs.state.told_by.Statement.{statement}
@@ -121,6 +121,7 @@ tell-requires : tie.Need-tell-requires Inv-loop μ-loop
 tell-requires c κs = search needs
 
 returns : tie.Need-returns Inv-loop μ-loop
+unfolding toldBy
 returns c =
     let l = c .before .before .before in
     let s = l .before .before .before in

@@ -1,5 +1,4 @@
 -- `job::state::type_permits` meets its contract: each return by the tests that led there.
-use borrow.Author.Needs.{needs}
 use borrow.Author.Tests.{eq-eqb, ne-eqb}
 use Rattle.job.proofs.state.type_permits.Statement.{statement}
 use Rattle.job.proofs.state.type_permits.Tie as tie

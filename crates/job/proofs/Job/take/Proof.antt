@@ -1,0 +1,55 @@
+-- `job::Job::take` meets its contract: a job that is not tidy is refused, and any other goes by its plan.
+use mathlib.Core.Path.{_≡_, refl, sym, _∙_}
+use mathlib.Core.Bool.{true}
+use native.Mathlib.Omega.{arith}
+use lib.ListN.{length}
+use lib.Seq.{length-take-le}
+use borrow.Author.Needs.{needs}
+use borrow.Author.Tests.{not-true, not-false}
+use Rattle.job.specs.Job.{tidy}
+use Rattle.job.proofs.Tidy.{tidy-says}
+use Rattle.job.proofs.Job.take.Statement.{statement}
+use Rattle.job.proofs.Job.take.Tie as tie
+
+is-tidy-requires : tie.Need-is-tidy-requires
+is-tidy-requires c κs = search needs
+
+refuse-requires : tie.Need-refuse-requires
+refuse-requires c κs = search needs
+
+returns : tie.Need-returns
+returns c = rw (sym (c .before .before .is-tidy .ensures) ∙ not-true _ (c .before .if1 .taken)) (c .refuse .ensures)
+
+-- the job is tidy
+passed : (c : tie.Else1) → tidy (c .before .before .args .self) ≡ true
+passed c = sym (c .before .is-tidy .ensures) ∙ not-false _ (c .if1 .left)
+
+array-share-prefix-file : tie.Need-array-share-prefix-file
+array-share-prefix-file c =
+    let j = c .before .before .before .args .self in
+    let long : length (j .file) ≡ 360 = search needs in
+    omega (arith, tidy-says j (passed (c .before)) .file-fits)
+
+slice-aggregate-take-in : tie.Need-slice-aggregate-take-in
+slice-aggregate-take-in c =
+    let j = c .before .before .before .before .args .self in
+    let long : length (j .file) ≡ 360 = search needs in
+    sym (length-take-le (j .«file_len») (j .file) (omega (arith, tidy-says j (passed (c .before .before)) .file-fits)))
+
+take-in-requires : tie.Need-take-in-requires
+take-in-requires c κs = (refl, tidy-says (c .before .before .before .before .args .self) (passed (c .before .before)) .few)
+
+returns-2 : tie.Need-returns-2
+returns-2 c = rw (passed (c .before .before .before)) (c .take-in .ensures)
+
+pub take-spec : {M : Type 1} → statement M
+take-spec =
+    tie.close
+    (tie.spec
+    is-tidy-requires
+    refuse-requires
+    returns
+    array-share-prefix-file
+    slice-aggregate-take-in
+    take-in-requires
+    returns-2)
