@@ -1,0 +1,51 @@
+// Reading from an open descriptor into a lent buffer, where a read that fails is told from the end of the input.
+ghost use Prim.Native.Nat.{_+_, _≤_};
+ghost use lib.ListN.{length};
+ghost use Rattle.io.specs.Counts.{Counts};
+
+// What reading gave: how many bytes stand at the start of the buffer, and whether a read failed after them
+// (`os::fail` then says why).
+pub struct Filled {
+    pub count: usize,
+    pub failed: bool,
+}
+
+// One read: no bytes where the input has ended.
+fn read_some(fd: i32, buf: &mut [u8]) -> Filled
+    ensures { λ r. ⌜ r .count ≤ length (now (buf .entry)) ⌝ }
+{
+    let got = libc::read(fd, buf);
+    Filled {
+        count: io::count(got, buf),
+        failed: got < 0,
+    }
+}
+
+// One read into what follows the first `done` bytes.
+fn read_after(fd: i32, buf: &mut [u8], done: usize) -> Filled
+    requires { ⌜ done ≤ length (now buf) ⌝ }
+    ensures { λ r. ⌜ done + r .count ≤ length (now (buf .entry)) ⌝ }
+{
+    read_some(fd, &mut buf[done..])
+}
+
+// Reads until the buffer is full, the input ends or a read fails.
+pub fn fill(fd: i32, buf: &mut [u8]) -> Filled
+    ensures { λ r. ⌜ Counts (r .count) (now (buf .exit)) ⌝ }
+{
+    let mut done = 0;
+    while done < buf.len() {
+        let more = read_after(fd, buf, done);
+        if more.count == 0 {
+            return Filled {
+                count: done,
+                failed: more.failed,
+            };
+        }
+        done += more.count;
+    }
+    Filled {
+        count: done,
+        failed: false,
+    }
+}
