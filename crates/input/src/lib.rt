@@ -21,21 +21,22 @@ fn read_some(fd: i32, buf: &mut [u8]) -> Filled
     }
 }
 
-// One read into what follows the first `done` bytes.
-fn read_after(fd: i32, buf: &mut [u8], done: usize) -> Filled
-    requires { ⌜ done ≤ length (now buf) ⌝ }
-    ensures { λ r. ⌜ done + r .count ≤ length (now (buf .entry)) ⌝ }
+// One read into the bytes from `done` on, up to `n`.
+fn read_after(fd: i32, buf: &mut [u8], done: usize, n: usize) -> Filled
+    requires { ⌜ (done ≤ n) × (n ≤ length (now buf)) ⌝ }
+    ensures { λ r. ⌜ done + r .count ≤ n ⌝ }
 {
-    read_some(fd, &mut buf[done..])
+    read_some(fd, &mut buf[done..n])
 }
 
-// Reads until the buffer is full, the input ends or a read fails.
-pub fn fill(fd: i32, buf: &mut [u8]) -> Filled
-    ensures { λ r. ⌜ Counts (r .count) (now (buf .exit)) ⌝ }
+// Reads into the buffer's first `n` bytes, until they are there, the input ends or a read fails.
+pub fn fill_first(fd: i32, buf: &mut [u8], n: usize) -> Filled
+    requires { ⌜ n ≤ length (now buf) ⌝ }
+    ensures { λ r. ⌜ Counts (r .count) (now (buf .exit)) × (r .count ≤ n) ⌝ }
 {
     let mut done = 0;
-    while done < buf.len() {
-        let more = read_after(fd, buf, done);
+    while done < n {
+        let more = read_after(fd, buf, done, n);
         if more.count == 0 {
             return Filled {
                 count: done,
@@ -48,4 +49,11 @@ pub fn fill(fd: i32, buf: &mut [u8]) -> Filled
         count: done,
         failed: false,
     }
+}
+
+// Reads until the buffer is full, the input ends or a read fails.
+pub fn fill(fd: i32, buf: &mut [u8]) -> Filled
+    ensures { λ r. ⌜ Counts (r .count) (now (buf .exit)) ⌝ }
+{
+    fill_first(fd, buf, buf.len())
 }

@@ -1,19 +1,19 @@
--- `input::fill` meets its contract. The loop's invariant: the bytes read lie within the buffer, which keeps its length.
--- The measure is what is left of the buffer.
+-- `input::fill_first` meets its contract. The loop's invariant: the bytes read are at most n, and the buffer keeps its length.
+-- The measure is what is left of n.
 use mathlib.Core.Path.{_≡_}
 use Prim.Native.Nat.{_≤_, _-_}
 use native.Mathlib.Omega.{arith}
 use lib.ListN.{length}
 use borrow.Author.Needs.{needs}
 use Rattle.io.proofs.Counting.{counts}
-use Rattle.input.proofs.fill.Statement.{statement}
-use Rattle.input.proofs.fill.Tie as tie
+use Rattle.input.proofs.fill_first.Statement.{statement}
+use Rattle.input.proofs.fill_first.Tie as tie
 
 abbrev Inv-loop : tie.InvT-loop
-Inv-loop fd buf₀ done₀ buf done = (done ≤ length buf) × (length buf ≡ length buf₀)
+Inv-loop fd buf₀ n done₀ buf done = (done ≤ n) × (length buf ≡ length buf₀)
 
 abbrev μ-loop : tie.MeasureT-loop
-μ-loop fd buf₀ done₀ buf done = length buf - done
+μ-loop fd buf₀ n done₀ buf done = n - done
 
 loop-holds : tie.Need-loop-holds Inv-loop μ-loop
 loop-holds c = omega arith
@@ -25,7 +25,7 @@ same-length : tie.Need-same-length Inv-loop μ-loop
 same-length c = search needs
 
 returns : tie.Need-returns Inv-loop μ-loop
-returns c = counts _ _ (omega arith)
+returns c = (counts _ _ (omega arith), omega arith)
 
 add-done : tie.Need-add-done Inv-loop μ-loop
 add-done c = omega arith
@@ -40,9 +40,9 @@ same-length-2 : tie.Need-same-length-2 Inv-loop μ-loop
 same-length-2 c = search needs
 
 returns-2 : tie.Need-returns-2 Inv-loop μ-loop
-returns-2 c = counts _ _ (omega arith)
+returns-2 c = (counts _ _ (omega arith), omega arith)
 
-pub fill-spec : {M : Type 1} → statement M
-fill-spec =
+pub fill-first-spec : {M : Type 1} → statement M
+fill-first-spec =
     tie.close
     (tie.spec Inv-loop μ-loop loop-holds read-after-requires same-length returns add-done loop-less loop-again same-length-2 returns-2)

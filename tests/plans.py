@@ -1,0 +1,104 @@
+"""Plan files made at random and damaged at random, and the number that the model refuses a file by.
+
+What make_vectors.py and fuzz_inspect.py share. The model is an independent reader of plan files in Python, a folder with oracle.py, which
+stands outside the repository.
+"""
+import importlib.util
+import os
+
+
+def model_in(folder):
+    """the model's module oracle.py"""
+    spec = importlib.util.spec_from_file_location('oracle', os.path.join(folder, 'oracle.py'))
+    module = importlib.util.module_from_spec(spec)
+    spec.loader.exec_module(module)
+    return module
+
+
+def number_of(model, file):
+    """document 01's number for a file, as the model has it: 0 where it is accepted"""
+    try:
+        model.parse(bytes(file))
+        return 0
+    except model.Refused as refused:
+        return refused.args[0]
+
+
+def block(kind, body, length=None):
+    """a block; `length` is what its heading says, where that is not the body's own"""
+    body = bytes(body)
+    length = len(body) if length is None else length
+    return length.to_bytes(2, 'little') + kind.to_bytes(2, 'little') + body
+
+
+def blocks_of(file):
+    """the parts of a file that its headings mark out, however many there are, and what is left"""
+    parts, at = [], 0
+    while len(file) - at >= 4:
+        end = at + 4 + int.from_bytes(file[at:at + 2], 'little')
+        parts.append(file[at:end])
+        at = end
+    return parts + ([file[at:]] if at < len(file) else [])
+
+
+def random_plan(model, rng):
+    """the file of a plan of 1 to 10 actions and 1 to 32 leaves"""
+    actions = rng.randrange(1, 11)
+    types = [rng.choice([1, 2, 3]) for _ in range(actions)]
+    nodes = model.nodes_of(model.rand_tree(rng, rng.choice([1, 2, 3, 5, 8, 13, 21, 32]), actions))
+    rule = model.rand_rule(rng, actions, rng.randrange(0, 7))
+    return model.encode(types, model.rand_pairs(rng, actions), nodes, rule)
+
+
+def random_body(rng, kind, actions):
+    """a body whose bytes are mostly near those that its kind permits"""
+    count = rng.choice([0, 1, 1, 2, 3, 5, 9, 10, 11, 63, 64, 127, 128]) if kind != 3 else rng.choice([0, 1, 2, 3, 5, 7, 63, 64])
+    near = lambda: rng.choice([rng.randrange(0, actions + 2), rng.randrange(256)] + [rng.randrange(0, actions + 1)] * 6)
+    if kind == 1:
+        return bytes(rng.choice([1, 2, 3] * 8 + [0, 4]) for _ in range(count))
+    if kind == 2:
+        return bytes(near() for _ in range(min(count, 12) * 2 + rng.choice([0] * 9 + [1])))
+    if kind == 3:
+        return bytes(b for i in range(count) for b in (rng.choice([0, 1, 2, 3, 4, 5, 6, 7] * 4 + [8]), rng.randrange(0, i + 1), rng.choice([0, rng.randrange(0, i + 1)])))
+    return bytes(rng.choice([near(), near(), 0x80, 0x81, 0x82]) for _ in range(count))
+
+
+def random_blocks(rng):
+    """four blocks with bodies made without regard to one another"""
+    types = random_body(rng, 1, 1)
+    return b''.join([block(1, types)] + [block(kind, random_body(rng, kind, len(types))) for kind in (2, 3, 4)])
+
+
+def damaged(rng, file):
+    """the file with one thing done to it"""
+    file = bytearray(file)
+    at = rng.randrange(len(file)) if file else 0
+    what = rng.randrange(9)
+    if what == 0 and file:
+        file[at] = rng.randrange(256)
+    elif what == 1 and file:
+        file[at] = (file[at] + rng.choice([1, 255, 128])) % 256
+    elif what == 2:
+        file[at:at] = bytes([rng.choice([0, 1, 2, 3, 4, 6, 0x80, 0x81, 0x82, rng.randrange(256)])])
+    elif what == 3:
+        del file[at:at + 1]
+    elif what == 4:
+        del file[at:at + rng.randrange(1, 8)]
+    elif what == 5:
+        return bytes(file[:at])
+    elif what == 6:
+        return bytes(file) + bytes(rng.randrange(256) for _ in range(rng.randrange(1, 6)))
+    else:
+        parts = blocks_of(bytes(file))
+        if parts:
+            i, j = rng.randrange(len(parts)), rng.randrange(len(parts))
+            if what == 7:
+                parts[i], parts[j] = parts[j], parts[i]
+            else:
+                # a heading's number moved by little, or a byte of its body made one of a few that matter
+                part = bytearray(parts[i])
+                k = rng.randrange(min(4, len(part))) if rng.random() < .5 else rng.randrange(len(part))
+                part[k] = rng.choice([(part[k] + 1) % 256, (part[k] - 1) % 256, 0, 1, 3, 6, 7, 8, 10, 0x7F, 0x80, 0x83])
+                parts[i] = bytes(part)
+        return b''.join(parts)
+    return bytes(file)
