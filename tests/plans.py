@@ -50,23 +50,38 @@ def random_plan(model, rng):
     return model.encode(types, model.rand_pairs(rng, actions), nodes, rule)
 
 
-def random_body(rng, kind, actions):
+def random_nodes(model, rng, actions):
+    """a node list: a tree whose compensations may stand anywhere, with up to two of its bytes moved by little"""
+    def tree(leaves):
+        if leaves == 1:
+            return rng.choice([('skip',), ('throw',), ('act', rng.randrange(actions))])
+        left = rng.randrange(1, leaves)
+        return (rng.choice(list(model.FORMNO)), tree(left), tree(leaves - left))
+    body = [b for node in model.nodes_of(tree(rng.choice([1, 2, 3, 5, 8, 21, 32, 33]))) for b in node]
+    for _ in range(rng.choice([0, 1, 1, 2])):
+        at = rng.randrange(len(body))
+        body[at] = (body[at] + rng.choice([1, 2, 255])) % 256
+    return bytes(body)
+
+
+def random_body(model, rng, kind, actions):
     """a body whose bytes are mostly near those that its kind permits"""
-    count = rng.choice([0, 1, 1, 2, 3, 5, 9, 10, 11, 63, 64, 127, 128]) if kind != 3 else rng.choice([0, 1, 2, 3, 5, 7, 63, 64])
-    near = lambda: rng.choice([rng.randrange(0, actions + 2), rng.randrange(256)] + [rng.randrange(0, actions + 1)] * 6)
+    action = lambda: rng.choice([rng.randrange(actions)] * 9 + [rng.randrange(256)])
     if kind == 1:
-        return bytes(rng.choice([1, 2, 3] * 8 + [0, 4]) for _ in range(count))
+        return bytes(rng.choice([1, 2, 3] * 8 + [0, 4]) for _ in range(rng.choice([0, 1, 5, 10, 11])))
     if kind == 2:
-        return bytes(near() for _ in range(min(count, 12) * 2 + rng.choice([0] * 9 + [1])))
+        return bytes(action() for _ in range(rng.choice([0, 2, 2, 4, 4, 5, 6, 18, 20])))
     if kind == 3:
-        return bytes(b for i in range(count) for b in (rng.choice([0, 1, 2, 3, 4, 5, 6, 7] * 4 + [8]), rng.randrange(0, i + 1), rng.choice([0, rng.randrange(0, i + 1)])))
-    return bytes(rng.choice([near(), near(), 0x80, 0x81, 0x82]) for _ in range(count))
+        return random_nodes(model, rng, actions)
+    return bytes(rng.choice([action(), action(), 0x80, 0x81, 0x82]) for _ in range(rng.choice([0, 1, 2, 3, 4, 5, 7, 127, 128])))
 
 
-def random_blocks(rng):
-    """four blocks with bodies made without regard to one another"""
-    types = random_body(rng, 1, 1)
-    return b''.join([block(1, types)] + [block(kind, random_body(rng, kind, len(types))) for kind in (2, 3, 4)])
+def random_blocks(model, rng):
+    """the file of a plan with one of its bodies made without regard to the others"""
+    parts = blocks_of(random_plan(model, rng))
+    kind = rng.choice([1, 2, 3, 3, 3, 4, 4])
+    parts[kind - 1] = block(kind, random_body(model, rng, kind, len(parts[0]) - 4))
+    return b''.join(parts)
 
 
 def damaged(rng, file):

@@ -5,12 +5,9 @@ use Prim.Native.Nat.{ℕ}
 use lib.Dec.{eqb}
 use lib.ListN.{length, getD, drop}
 use Rattle.plan.specs.Reading.{readOf, numberOf}
-use Rattle.compare.specs.declared.Outcome.{Outcome}
-use Rattle.compare.specs.declared.Outcome.the-variants.{Agrees, Differs, Damaged}
-
--- a number expected and a number found
-abbrev pub heldAgainst : ℕ → ℕ → Outcome
-heldAgainst expected found = cond (eqb expected found) Agrees (Differs expected found)
+use Rattle.compare.specs.Tally.{heldAgainst}
+use Rattle.compare.specs.declared.tally.Outcome.{Outcome}
+use Rattle.compare.specs.declared.tally.Outcome.the-variants.{Damaged}
 
 -- The body's first byte is the number expected, the others are the file.
 abbrev pub outcomeOf : List ℕ → Outcome

@@ -1,2 +1,2 @@
+pub mod Tally
 pub mod Files
-pub mod Counts

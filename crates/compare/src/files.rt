@@ -1,10 +1,11 @@
-// The group `files`: is a file refused by the number that document 01 says?
-// A vector's body is that number, one byte, 0 for a plan file, and then the file's bytes.
+// The group `files`: the number that a file is refused by.
+// A vector's body is the number expected, one byte, 0 for a plan file, and then the bytes of the file.
 ghost use mathlib.Core.Path.{_≡_};
 ghost use Rattle.plan.specs.Reading.{numberOf};
 ghost use Rattle.compare.specs.Files.{outcomeOf};
-use crate::Outcome;
 use crate::data::wide;
+use crate::tally::Outcome;
+use crate::tally::held;
 use plan::Reading;
 
 fn number_of(reading: Reading) -> u64
@@ -22,11 +23,6 @@ pub fn compare(body: &[u8]) -> Outcome
     if body.len() == 0 {
         return Outcome::Damaged;
     }
-    let expected = wide(body[0]);
     let found = number_of(plan::read(&body[1..]));
-    if expected == found {
-        Outcome::Agrees
-    } else {
-        Outcome::Differs { expected, found }
-    }
+    held(wide(body[0]), found)
 }

@@ -1,7 +1,9 @@
 // Reading from an open descriptor into a lent buffer, where a read that fails is told from the end of the input.
+ghost use mathlib.Core.Path.{_≡_};
 ghost use Prim.Native.Nat.{_+_, _≤_};
 ghost use lib.ListN.{length};
 ghost use Rattle.io.specs.Counts.{Counts};
+ghost use Rattle.input.specs.Answer.{answerOf};
 
 // What reading gave: how many bytes stand at the start of the buffer, and whether a read failed after them
 // (`os::fail` then says why).
@@ -10,15 +12,24 @@ pub struct Filled {
     pub failed: bool,
 }
 
-// One read: no bytes where the input has ended.
+// What the answer of one read says: no bytes where the input has ended.
+fn answered(got: isize, buf: &[u8]) -> Filled
+    ensures { λ r. ⌜ r ≡ answerOf got (length (now (buf .entry))) ⌝ }
+    ensures { λ r. ⌜ r .count ≤ length (now (buf .entry)) ⌝ }
+{
+    let count = io::count(got, buf);
+    Filled {
+        count,
+        failed: got < 0,
+    }
+}
+
+// One read.
 fn read_some(fd: i32, buf: &mut [u8]) -> Filled
     ensures { λ r. ⌜ r .count ≤ length (now (buf .entry)) ⌝ }
 {
     let got = libc::read(fd, buf);
-    Filled {
-        count: io::count(got, buf),
-        failed: got < 0,
-    }
+    answered(got, buf)
 }
 
 // One read into the bytes from `done` on, up to `n`.

@@ -3,16 +3,12 @@
 use Prim.Native.Nat.{_+_, _≤_}
 use borrow.Author.Needs.{needs}
 use native.Mathlib.Omega.{arith}
-use Rattle.compare.specs.Counts.{countedOf}
-use Rattle.compare.specs.declared.Outcome.{Outcome}
-use Rattle.compare.specs.declared.Outcome.the-variants.{Agrees, Differs, Damaged}
-use Rattle.compare.specs.declared.Tally.{Tally}
+use Rattle.compare.specs.Tally.{countedOf}
+use Rattle.compare.specs.declared.tally.Outcome.{Outcome}
+use Rattle.compare.specs.declared.tally.Outcome.the-variants.{Agrees, Differs, Damaged}
+use Rattle.compare.specs.declared.tally.Tally.{Tally}
 use Rattle.compare.proofs.vectors.Statement.{statement}
 use Rattle.compare.proofs.vectors.Tie as tie
-use Rattle.compare.proofs.vectors.Reads as reads
-use Rattle.compare.proofs.vectors.Lts as lts
-use Rattle.compare.proofs.counted.Reads as counted-reads
-use Rattle.compare.proofs.vector.Reads as vector-reads
 
 -- one vector more keeps the agreements within the vectors
 more : (t : Tally) (o : Outcome) → t .agree ≤ t .vectors → (countedOf t o .agree ≤ countedOf t o .vectors) × (countedOf t o .vectors ≤ t .vectors + 1)

@@ -1,9 +1,9 @@
--- `compare::counted` meets its contract: each arm of the match is its row of the definition.
+-- `compare::tally::counted` meets its contract: each arm of the match is its row of the definition.
 use mathlib.Core.Path.{sym, ap}
 use borrow.Author.Needs.{needs}
-use Rattle.compare.specs.Counts.{countedOf}
-use Rattle.compare.proofs.counted.Statement.{statement}
-use Rattle.compare.proofs.counted.Tie as tie
+use Rattle.compare.specs.Tally.{countedOf}
+use Rattle.compare.proofs.tally.counted.Statement.{statement}
+use Rattle.compare.proofs.tally.counted.Tie as tie
 
 enum-told : tie.Need-enum-told
 enum-told c = search needs
