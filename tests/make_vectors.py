@@ -5,6 +5,7 @@ MODEL is the folder of the model (plans.py says which). Written: crates/compare/
 docs/VECTORS.md has the format. The numbers expected are the model's. Where document 01 names one, the script ends if the model has another.
 Nothing but the seeds below decides what is made, so that a second run writes the same bytes.
 """
+import itertools
 import os
 import random
 import sys
@@ -104,6 +105,7 @@ def edges_of_lengths():
         yield f'{n} nodes, one of them not named', whole(nodes=[SKIP] + comb(n // 2))
     for n in (1, 2, 4, 5, 187, 188, 190, 191):
         yield f'{n} bytes of nodes', block(1, [1]) + block(2, b'') + block(3, flat(comb(32) + [SKIP])[:n]) + block(4, [0])
+    yield '129 bytes of nodes, said to be 257', block(1, [1]) + block(2, b'') + block(3, flat(comb(22)), 257) + block(4, [0])
     for n in (0, 1, 2, 126, 127, 128, 129, 255, 256):
         yield f'{n} bytes of rule', whole(rule=([0] + [0x80] * (n - 1))[:n])
     for n in (126, 127, 128, 129):
@@ -131,6 +133,7 @@ def edges_of_headings():
         for high in (1, 128, 255):
             yield f'{name}: high byte of the length {high}', with_block(kind, block(kind, BODIES[kind], len(BODIES[kind]) + 256 * high))
             yield f'{name}: high byte of the kind {high}', with_block(kind, block(kind + 256 * high, BODIES[kind]))
+        yield f'{name}: length in the high byte', with_block(kind, block(kind, BODIES[kind], 256 * len(BODIES[kind])))
         yield f'{name}: kind in the high byte', with_block(kind, block(256 * kind, BODIES[kind]))
         for other in (0, 1, 2, 3, 4, 5, 255):
             yield f'{name}: kind {other}', with_block(kind, block(other, BODIES[kind]))
@@ -159,8 +162,9 @@ def edges_of_contents():
         for values in range(4):
             yield f'rule byte {byte:02X} after {values} values', whole(rule=[0] * values + [byte])
             yield f'rule byte {byte:02X} after {values} values, and or', whole(rule=[0] * values + [byte, 0x82])
-    for rule in ('0000', '000000', '00008181', '00810000', '0000810081', '80', '8000', '0080', '000080', '00008081', '0000818080', '000000818281'):
-        yield f'rule {rule}', whole(rule=bytes.fromhex(rule))
+    for length in (1, 2, 3, 4):
+        for rule in itertools.product(bytes.fromhex('00808182'), repeat=length):
+            yield f'rule {bytes(rule).hex(" ")}', whole(rule=rule)
     for form in (0, 1, 2):
         for left in (0, 1, 2, 255):
             for right in (0, 1, 255):

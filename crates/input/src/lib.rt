@@ -2,8 +2,7 @@
 ghost use mathlib.Core.Path.{_≡_};
 ghost use Prim.Native.Nat.{_+_, _≤_};
 ghost use lib.ListN.{length};
-ghost use Rattle.io.specs.Counts.{Counts};
-ghost use Rattle.input.specs.Answer.{answerOf};
+ghost use Rattle.input.specs.Answer.{answerOf, Gives};
 
 // What reading gave: how many bytes stand at the start of the buffer, and whether a read failed after them
 // (`os::fail` then says why).
@@ -43,7 +42,7 @@ fn read_after(fd: i32, buf: &mut [u8], done: usize, n: usize) -> Filled
 // Reads into the buffer's first `n` bytes, until they are there, the input ends or a read fails.
 pub fn fill_first(fd: i32, buf: &mut [u8], n: usize) -> Filled
     requires { ⌜ n ≤ length (now buf) ⌝ }
-    ensures { λ r. ⌜ Counts (r .count) (now (buf .exit)) × (r .count ≤ n) ⌝ }
+    ensures { λ r. ⌜ Gives n (now (buf .exit)) r ⌝ }
 {
     let mut done = 0;
     while done < n {
@@ -64,7 +63,7 @@ pub fn fill_first(fd: i32, buf: &mut [u8], n: usize) -> Filled
 
 // Reads until the buffer is full, the input ends or a read fails.
 pub fn fill(fd: i32, buf: &mut [u8]) -> Filled
-    ensures { λ r. ⌜ Counts (r .count) (now (buf .exit)) ⌝ }
+    ensures { λ r. ⌜ Gives (length (now (buf .entry))) (now (buf .exit)) r ⌝ }
 {
     fill_first(fd, buf, buf.len())
 }

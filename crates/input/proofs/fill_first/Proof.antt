@@ -1,6 +1,7 @@
 -- `input::fill_first` meets its contract. The loop's invariant: the bytes read are at most n, and the buffer keeps its length.
 -- The measure is what is left of n.
-use mathlib.Core.Path.{_≡_}
+use mathlib.Core.Bool.{true≢false}
+use mathlib.Core.Path.{_≡_, sym}
 use Prim.Native.Nat.{_≤_, _-_}
 use native.Mathlib.Omega.{arith}
 use lib.ListN.{length}
@@ -25,7 +26,7 @@ same-length : tie.Need-same-length Inv-loop μ-loop
 same-length c = search needs
 
 returns : tie.Need-returns Inv-loop μ-loop
-returns c = (counts _ _ (omega arith), omega arith)
+returns c = record { within = counts _ _ (omega arith); most = omega arith; short = λ h. omega arith }
 
 add-done : tie.Need-add-done Inv-loop μ-loop
 add-done c = omega arith
@@ -40,7 +41,7 @@ same-length-2 : tie.Need-same-length-2 Inv-loop μ-loop
 same-length-2 c = search needs
 
 returns-2 : tie.Need-returns-2 Inv-loop μ-loop
-returns-2 c = (counts _ _ (omega arith), omega arith)
+returns-2 c = record { within = counts _ _ (omega arith); most = omega arith; short = λ h. absurd (true≢false (sym h)) }
 
 pub fill-first-spec : {M : Type 1} → statement M
 fill-first-spec =
