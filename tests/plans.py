@@ -5,6 +5,10 @@ stands outside the repository.
 """
 import importlib.util
 import os
+import sys
+
+# nothing is to be written beside the model
+sys.dont_write_bytecode = True
 
 
 def model_in(folder):
@@ -41,11 +45,24 @@ def blocks_of(file):
     return parts + ([file[at:]] if at < len(file) else [])
 
 
+def in_another_order(rng, nodes):
+    """the same tree with its nodes numbered at random, each after those that it names"""
+    place, left = {}, list(range(len(nodes) - 1))
+    out = []
+    while left:
+        i = rng.choice([i for i in left if nodes[i][0] < 3 or (nodes[i][1] in place and nodes[i][2] in place)])
+        left.remove(i)
+        place[i] = len(place)
+        out.append(i)
+    return [(f, place[l], place[r]) if f >= 3 else (f, l, r) for f, l, r in (nodes[i] for i in out + [len(nodes) - 1])]
+
+
 def random_plan(model, rng):
-    """the file of a plan of 1 to 10 actions and 1 to 32 leaves"""
+    """the file of a plan of 1 to 10 actions and 1 to 32 leaves, a third of them with their nodes in an order other than the model's"""
     actions = rng.randrange(1, 11)
     types = [rng.choice([1, 2, 3]) for _ in range(actions)]
     nodes = model.nodes_of(model.rand_tree(rng, rng.choice([1, 2, 3, 5, 8, 13, 21, 32]), actions))
+    nodes = in_another_order(rng, nodes) if rng.randrange(3) == 0 else nodes
     rule = model.rand_rule(rng, actions, rng.randrange(0, 7))
     return model.encode(types, model.rand_pairs(rng, actions), nodes, rule)
 

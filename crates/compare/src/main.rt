@@ -35,12 +35,12 @@ fn vector(fd: i32, group: Group, title: &[u8], number: u64, is_first: bool) -> O
     let name_length = data::number(fd);
     let body_length = data::number(fd);
     let named = data::take(fd, &mut name, name_length);
-    let held = data::take(fd, &mut body, body_length);
-    if !named.whole || !held.whole {
+    let filled = data::take(fd, &mut body, body_length);
+    if !named.whole || !filled.whole {
         return Outcome::Damaged;
     }
     let m = named.count;
-    let n = held.count;
+    let n = filled.count;
     let outcome = compare(group, &body[..n]);
     if let Outcome::Differs { expected, found } = outcome {
         if is_first {
