@@ -1,7 +1,5 @@
 -- `compare::tally::counted` meets its contract: each arm of the match is its row of the definition.
-use mathlib.Core.Path.{sym, ap}
 use borrow.Author.Needs.{needs}
-use Rattle.compare.specs.Tally.{countedOf}
 use Rattle.compare.proofs.tally.counted.Statement.{statement}
 use Rattle.compare.proofs.tally.counted.Tie as tie
 
