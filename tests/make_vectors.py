@@ -32,11 +32,11 @@ def whole(types=(1,), pairs=(), nodes=(SKIP,), rule=(0,)):
     return block(1, types) + block(2, flat(pairs)) + block(3, flat(nodes)) + block(4, rule)
 
 
-def comb(leaves, form=SEQUENCE):
-    """a tree of so many skips, each new one to the right of all before it"""
+def comb(leaves):
+    """a sequence of so many skips, each new one to the right of all before it"""
     nodes = [SKIP]
     for _ in range(leaves - 1):
-        nodes += [SKIP, (form, len(nodes) - 1, len(nodes))]
+        nodes += [SKIP, (SEQUENCE, len(nodes) - 1, len(nodes))]
     return nodes
 
 
@@ -250,8 +250,16 @@ def cuts():
 # The checks in document 01's order. Of a block: heading cut, kind, length, body cut, contents; then bytes after block four.
 CHECKS = [(k, c) for k in (1, 2, 3, 4) for c in ('heading', 'kind', 'length', 'body') + {1: (4,), 2: (5,), 3: (6, 7, 8), 4: (9,)}[k]] + [(5, 'trailing')]
 NUMBER = {'heading': 1, 'kind': 2, 'length': 3, 'body': 1, 'trailing': 1}
-# what breaks a check of contents, as rows that are put before sound ones, so that a body may be cut after them
-BROKEN = {4: [4], 5: [0, 0], 6: [1, 1, 0], 7: [1, 0, 0], 8: list(flat(NESTED))}
+# what breaks a check of contents, as bytes that are put before sound ones, so that a body may be cut after them
+BROKEN = {4: b'\x04', 5: bytes([0, 0]), 9: b'\x80'}
+
+
+def nodes_with(faults):
+    """a node list that breaks some of the checks 6, 7, 8"""
+    nodes = NESTED if 8 in faults else [SKIP]
+    if 6 in faults:
+        nodes = over(SEQUENCE, [(1, 1, 0)], nodes)
+    return over(SEQUENCE, [SKIP], nodes)[:-1] if 7 in faults else nodes
 
 
 def with_faults(faults):
@@ -259,21 +267,11 @@ def with_faults(faults):
     file = b''
     for kind in (1, 2, 3, 4):
         here = [c for k, c in faults if k == kind]
-        body = bytes(b for c in here if c in BROKEN for b in BROKEN[c]) + BODIES[kind]
-        if kind == 3 and any(c in BROKEN for c in here):
-            # the rows before one another are joined to a tree again, but for those that are to stand alone
-            nodes = [SKIP]
-            if 8 in here:
-                nodes = list(NESTED)
-            if 6 in here:
-                nodes = over(SEQUENCE, [(1, 1, 0)], nodes)
-            if 7 in here:
-                nodes = [SKIP] + [(f, l + 1, r + 1) if f >= 3 else (f, l, r) for f, l, r in nodes]
-            body = flat(nodes)
-        if 9 in here:
-            body = b'\x80' + body
+        body = b''.join(BROKEN[c] for c in here if c in BROKEN) + BODIES[kind]
+        if {6, 7, 8} & set(here):
+            body = flat(nodes_with(here))
         if 'length' in here:
-            body = {1: body + b'\x01' * 11, 2: body + b'\0', 3: body + b'\x01', 4: body + b'\x80' * 127}[kind]
+            body += {1: b'\x01' * 11, 2: b'\0', 3: b'\x01', 4: b'\x80' * 127}[kind]
         field = kind + (1 if 'kind' in here else 0)
         if 'heading' in here:
             return file + block(field, b'', len(body))[:3]
