@@ -1,0 +1,49 @@
+-- `input::fill_first` meets its contract. The loop's invariant: the bytes read are at most n, and the buffer keeps its length.
+-- The measure is what is left of n.
+use mathlib.Core.Bool.{true≢false}
+use mathlib.Core.Path.{_≡_, sym}
+use Prim.Native.Nat.{_≤_, _-_}
+use native.Mathlib.Omega.{arith}
+use lib.ListN.{length}
+use borrow.Author.Needs.{needs}
+use Rattle.io.proofs.Counting.{counts}
+use Rattle.input.proofs.fill_first.Statement.{statement}
+use Rattle.input.proofs.fill_first.Tie as tie
+
+abbrev Inv-loop : tie.InvT-loop
+Inv-loop fd buf₀ n done₀ buf done = (done ≤ n) × (length buf ≡ length buf₀)
+
+abbrev μ-loop : tie.MeasureT-loop
+μ-loop fd buf₀ n done₀ buf done = n - done
+
+loop-holds : tie.Need-loop-holds Inv-loop μ-loop
+loop-holds c = omega arith
+
+read-after-requires : tie.Need-read-after-requires Inv-loop μ-loop
+read-after-requires c κs = omega arith
+
+same-length : tie.Need-same-length Inv-loop μ-loop
+same-length c = search needs
+
+returns : tie.Need-returns Inv-loop μ-loop
+returns c = record { within = counts _ _ (omega arith); most = omega arith; short = λ h. omega arith }
+
+add-done : tie.Need-add-done Inv-loop μ-loop
+add-done c = omega arith
+
+loop-less : tie.Need-loop-less Inv-loop μ-loop
+loop-less c = omega arith
+
+loop-again : tie.Need-loop-again Inv-loop μ-loop
+loop-again c = omega arith
+
+same-length-2 : tie.Need-same-length-2 Inv-loop μ-loop
+same-length-2 c = search needs
+
+returns-2 : tie.Need-returns-2 Inv-loop μ-loop
+returns-2 c = record { within = counts _ _ (omega arith); most = omega arith; short = λ h. absurd (true≢false (sym h)) }
+
+pub fill-first-spec : {M : Type 1} → statement M
+fill-first-spec =
+    tie.close
+    (tie.spec Inv-loop μ-loop loop-holds read-after-requires same-length returns add-done loop-less loop-again same-length-2 returns-2)

@@ -1,0 +1,22 @@
+-- What reading says of itself: the answer of one call of `read`, a number that is below 0 where it failed, and what filling a buffer gives.
+-- Which bytes came no contract can say, since they come from outside.
+use mathlib.Core.Bool.{true}
+use mathlib.Core.List.{List}
+use mathlib.Core.Path.{_≡_}
+use Prim.Native.Nat.{ℕ, _≤_, _<_}
+use lib.IntN.{ℤ, pos}
+use lib.Signed.{ltZ}
+use Rattle.io.specs.Counts.{Counts, clamped}
+use Rattle.input.specs.declared.Filled.{Filled}
+
+-- the answer to a read into `room` bytes: a read that failed has put none there
+abbrev pub answerOf : ℤ → ℕ → Filled
+answerOf got room = record { count = clamped got room; failed = ltZ got (pos 0) }
+
+-- `n` bytes were asked for, and `buffer` is what the buffer holds now
+pub record Gives (n : ℕ) (buffer : List ℕ) (r : Filled) : Type 0 where
+  -- the count is of bytes at the start of the buffer
+  pub within : Counts (r .count) buffer
+  pub most : r .count ≤ n
+  -- where all are there, nothing has failed
+  pub short : r .failed ≡ true → r .count < n

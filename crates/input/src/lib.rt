@@ -1,0 +1,69 @@
+// Reading from an open descriptor into a lent buffer, where a read that fails is told from the end of the input.
+ghost use mathlib.Core.Path.{_≡_};
+ghost use Prim.Native.Nat.{_+_, _≤_};
+ghost use lib.ListN.{length};
+ghost use Rattle.input.specs.Answer.{answerOf, Gives};
+
+// What reading gave: how many bytes stand at the start of the buffer, and whether a read failed after them
+// (`os::fail` then says why).
+pub struct Filled {
+    pub count: usize,
+    pub failed: bool,
+}
+
+// What the answer of one read says: no bytes where the input has ended.
+fn answered(got: isize, buf: &[u8]) -> Filled
+    ensures { λ r. ⌜ r ≡ answerOf got (length (now (buf .entry))) ⌝ }
+    ensures { λ r. ⌜ r .count ≤ length (now (buf .entry)) ⌝ }
+{
+    let count = io::count(got, buf);
+    Filled {
+        count,
+        failed: got < 0,
+    }
+}
+
+// One read.
+fn read_some(fd: i32, buf: &mut [u8]) -> Filled
+    ensures { λ r. ⌜ r .count ≤ length (now (buf .entry)) ⌝ }
+{
+    let got = libc::read(fd, buf);
+    answered(got, buf)
+}
+
+// One read into the bytes from `done` on, up to `n`.
+fn read_after(fd: i32, buf: &mut [u8], done: usize, n: usize) -> Filled
+    requires { ⌜ (done ≤ n) × (n ≤ length (now buf)) ⌝ }
+    ensures { λ r. ⌜ done + r .count ≤ n ⌝ }
+{
+    read_some(fd, &mut buf[done..n])
+}
+
+// Reads into the buffer's first `n` bytes, until they are there, the input ends or a read fails.
+pub fn fill_first(fd: i32, buf: &mut [u8], n: usize) -> Filled
+    requires { ⌜ n ≤ length (now buf) ⌝ }
+    ensures { λ r. ⌜ Gives n (now (buf .exit)) r ⌝ }
+{
+    let mut done = 0;
+    while done < n {
+        let more = read_after(fd, buf, done, n);
+        if more.count == 0 {
+            return Filled {
+                count: done,
+                failed: more.failed,
+            };
+        }
+        done += more.count;
+    }
+    Filled {
+        count: done,
+        failed: false,
+    }
+}
+
+// Reads until the buffer is full, the input ends or a read fails.
+pub fn fill(fd: i32, buf: &mut [u8]) -> Filled
+    ensures { λ r. ⌜ Gives (length (now (buf .entry))) (now (buf .exit)) r ⌝ }
+{
+    fill_first(fd, buf, buf.len())
+}

@@ -1,0 +1,349 @@
+#!/usr/bin/env python3
+"""Writes the vectors of the program `compare` anew: tests/make_vectors.py MODEL
+
+MODEL is the folder of the model (plans.py says which). Written: crates/compare/data/files, crates/compare/stdout, crates/inspect/stdin.
+docs/VECTORS.md has the format. The numbers expected are the model's. Where document 01 names one, the script ends if the model has another.
+Nothing but the seeds below decides what is made, so that a second run writes the same bytes.
+"""
+import itertools
+import os
+import random
+import sys
+
+from plans import block, blocks_of, damaged, model_in, number_of, random_plan
+
+SEED_PLANS, PLANS = 20071, 300
+SEED_DAMAGED, DAMAGED = 20072, 1000
+# the rooms that the program has for a name and for a body
+NAME_ROOM, BODY_ROOM = 64, 66000
+
+SKIP, THROW = (1, 0, 0), (2, 0, 0)
+SEQUENCE, PARALLEL, CHOICE, COMPENSATION, HANDLER = 3, 4, 5, 6, 7
+P1 = bytes.fromhex('03 00 01 00 03 01 03 02 00 02 00 00 01 0F 00 03 00 00 00 00 00 01 00 06 00 01 00 02 00 03 02 03'
+                   '09 00 04 00 00 02 81 00 80 02 80 81 82')
+
+
+def flat(rows):
+    return bytes(b for row in rows for b in row)
+
+
+def whole(types=(1,), pairs=(), nodes=(SKIP,), rule=(0,)):
+    """the file of four bodies"""
+    return block(1, types) + block(2, flat(pairs)) + block(3, flat(nodes)) + block(4, rule)
+
+
+def comb(leaves):
+    """a sequence of so many skips, each new one to the right of all before it"""
+    nodes = [SKIP]
+    for _ in range(leaves - 1):
+        nodes += [SKIP, (SEQUENCE, len(nodes) - 1, len(nodes))]
+    return nodes
+
+
+def over(form, left, right):
+    """the node list of a tree from those of its sides"""
+    moved = [(f, l + len(left), r + len(left)) if f >= 3 else (f, l, r) for f, l, r in right]
+    return left + moved + [(form, len(left) - 1, len(left) + len(right) - 1)]
+
+
+TEN = [1, 2, 3, 1, 2, 3, 1, 2, 3, 1]
+NINE_PAIRS = [(a, 9) for a in range(9)]
+LARGEST = whole(TEN, NINE_PAIRS, comb(32), [0] + [0x80] * 126)
+
+
+def plans_of_document():
+    """P1 to P8; where document 01 gives no pairs or no rule, there are no pairs, and the rule is action 0"""
+    action = lambda a: (0, a, 0)
+    yield 'P1', P1
+    yield 'P2', whole([3, 3], (), [action(0), SKIP, (HANDLER, 0, 1), action(1), (SEQUENCE, 2, 3)], [1, 0x80, 0, 0x82])
+    yield 'P3', whole([1], (), [THROW, action(0), (PARALLEL, 0, 1)])
+    yield 'P4', whole([1, 3, 1], (), [action(0), action(1), (COMPENSATION, 0, 1), THROW, (SEQUENCE, 2, 3), action(2), (HANDLER, 4, 5)])
+    yield 'P5', whole([1, 1, 1], (), [action(0), action(1), (COMPENSATION, 0, 1), action(2), (COMPENSATION, 2, 3), THROW, (SEQUENCE, 4, 5)])
+    yield 'P6', whole([1, 1, 1, 2], (), [action(0), action(1), (COMPENSATION, 0, 1), action(2), action(3), (COMPENSATION, 3, 4),
+                                         (SEQUENCE, 2, 5), THROW, (SEQUENCE, 6, 7)])
+    yield 'P7', whole([1, 1], [(0, 1)], [action(1)], [0, 0, 0x80, 0x82])
+    yield 'P8', whole([3], (), [action(0), action(0), (SEQUENCE, 0, 1)])
+
+
+NESTED = [SKIP, SKIP, (COMPENSATION, 0, 1), SKIP, (COMPENSATION, 3, 2)]
+
+
+def examples_of_table():
+    """the examples of document 01's table as they stand, and made whole files: name, number, file"""
+    rest = blocks_of(P1)
+    yield '1: empty file', 1, b''
+    yield '2: 00 00 02 00', 2, bytes.fromhex('00000200')
+    yield '2: 00 00 02 00 and the blocks after it', 2, bytes.fromhex('00000200') + b''.join(rest[1:])
+    yield '3: 00 00 01 00', 3, bytes.fromhex('00000100')
+    yield '3: 00 00 01 00 and the blocks after it', 3, bytes.fromhex('00000100') + b''.join(rest[1:])
+    yield '4: 01 00 01 00 04', 4, bytes.fromhex('0100010004')
+    yield '4: 01 00 01 00 04 and the blocks after it', 4, bytes.fromhex('0100010004') + b''.join(rest[1:])
+    yield '5: pair 00 00, as it stands', None, bytes([0, 0])
+    yield '5: pair 00 00', 5, whole([1], [(0, 0)])
+    yield '6: node 0 = 03 00 00, as it stands', None, bytes([3, 0, 0])
+    yield '6: node 0 = 03 00 00', 6, whole([1], (), [(3, 0, 0)])
+    yield '7: two skips, as they stand', None, flat([SKIP, SKIP])
+    yield '7: two skips', 7, whole([1], (), [SKIP, SKIP])
+    yield '8: compensation in an undo side, as it stands', None, flat(NESTED)
+    yield '8: compensation in an undo side', 8, whole([1], (), NESTED)
+    yield '9: 80 alone, as it stands', None, bytes([0x80])
+    yield '9: 80 alone', 9, whole([1], (), [SKIP], [0x80])
+
+
+def edges_of_lengths():
+    """both sides of each limit, and bodies that are no multiple of what they list"""
+    for n in (0, 1, 2, 9, 10, 11, 12, 255, 256):
+        yield f'{n} actions', whole([1 + i % 3 for i in range(n)])
+    for n in (0, 1, 8, 9, 10, 11):
+        yield f'{n} pairs', whole(TEN, [(a % 9, 9) for a in range(n)])
+    yield '9 pairs of 9 actions', whole([1] * 9, [(a, 8) for a in range(9)])
+    for n in (1, 3, 17, 19):
+        yield f'{n} bytes of pairs', block(1, TEN) + block(2, flat(NINE_PAIRS + [(0, 9)])[:n]) + block(3, flat([SKIP])) + block(4, [0])
+    for n in (0, 1, 3, 5, 61, 63, 65, 67):
+        yield f'{n} nodes', whole(nodes=comb((n + 1) // 2) if n else [])
+    for n in (62, 64, 66):
+        yield f'{n} nodes, one of them not named', whole(nodes=[SKIP] + comb(n // 2))
+    for n in (1, 2, 4, 5, 187, 188, 190, 191):
+        yield f'{n} bytes of nodes', block(1, [1]) + block(2, b'') + block(3, flat(comb(32) + [SKIP])[:n]) + block(4, [0])
+    yield '129 bytes of nodes, said to be 257', block(1, [1]) + block(2, b'') + block(3, flat(comb(22)), 257) + block(4, [0])
+    for n in (0, 1, 2, 126, 127, 128, 129, 255, 256):
+        yield f'{n} bytes of rule', whole(rule=([0] + [0x80] * (n - 1))[:n])
+    for n in (126, 127, 128, 129):
+        yield f'{n} bytes of rule, of which half are and', whole(rule=[0] * ((n + 1) // 2) + [0x81] * (n // 2))
+    yield 'the largest file', LARGEST
+
+
+BODIES = {1: bytes([1, 1, 1]), 2: bytes([0, 1]), 3: flat(comb(3)), 4: bytes([0, 0x80])}
+NAMES = {1: 'types', 2: 'pairs', 3: 'nodes', 4: 'rule'}
+
+
+def with_block(kind, made):
+    """the whole file of BODIES with the block of one kind made by hand"""
+    return b''.join(made if k == kind else block(k, BODIES[k]) for k in BODIES)
+
+
+def edges_of_headings():
+    """length and kind fields, both bytes of each"""
+    # bodies in which nothing but the length is amiss, as far as that can be
+    long = {1: b'\x01' * 65535, 2: bytes([0, 1]) * 32767 + b'\0', 3: flat([SKIP] * 21845), 4: b'\0' + b'\x80' * 65534}
+    for kind, name in NAMES.items():
+        yield f'{name}: length 65535, body there', with_block(kind, block(kind, long[kind]))
+        yield f'{name}: length 65535, body short', with_block(kind, block(kind, BODIES[kind], 65535))
+        yield f'{name}: length 65535, no body', b''.join(block(k, BODIES[k]) for k in BODIES if k < kind) + block(kind, b'', 65535)
+        for high in (1, 128, 255):
+            yield f'{name}: high byte of the length {high}', with_block(kind, block(kind, BODIES[kind], len(BODIES[kind]) + 256 * high))
+            yield f'{name}: high byte of the kind {high}', with_block(kind, block(kind + 256 * high, BODIES[kind]))
+        yield f'{name}: length in the high byte', with_block(kind, block(kind, BODIES[kind], 256 * len(BODIES[kind])))
+        yield f'{name}: kind in the high byte', with_block(kind, block(256 * kind, BODIES[kind]))
+        for other in (0, 1, 2, 3, 4, 5, 255):
+            yield f'{name}: kind {other}', with_block(kind, block(other, BODIES[kind]))
+        for length in (len(BODIES[kind]) - 1, len(BODIES[kind]) + 1, len(BODIES[kind]) + 3):
+            yield f'{name}: length {length} of {len(BODIES[kind])}', with_block(kind, block(kind, BODIES[kind], length))
+        yield f'{name}: left out', with_block(kind, b'')
+        yield f'{name}: twice', with_block(kind, block(kind, BODIES[kind]) * 2)
+
+
+def edges_of_contents():
+    """types, action numbers, rule bytes, and the bytes of each form"""
+    for count in (1, 2, 10):
+        for at in sorted({0, count // 2, count - 1}):
+            for value in (0, 1, 2, 3, 4, 128, 255):
+                types = [1] * count
+                types[at] = value
+                yield f'type {value} at {at} of {count}', whole(types)
+    for count in (1, 3, 10):
+        types = [3] * count
+        for number in sorted({0, count - 1, count, count + 1, 127, 128, 255}):
+            yield f'action {number} of {count} in a node', whole(types, (), [(0, number, 0)])
+            yield f'action {number} of {count} in the rule', whole(types, (), [SKIP], [number])
+            yield f'action {number} of {count} first in a pair', whole(types, [(number, 0 if number else count - 1)])
+            yield f'action {number} of {count} second in a pair', whole(types, [(0, number)])
+    for byte in (0x01, 0x7F, 0x80, 0x81, 0x82, 0x83, 0x84, 0xFE, 0xFF):
+        for values in range(4):
+            yield f'rule byte {byte:02X} after {values} values', whole(rule=[0] * values + [byte])
+            yield f'rule byte {byte:02X} after {values} values, and or', whole(rule=[0] * values + [byte, 0x82])
+    for length in (1, 2, 3, 4):
+        for rule in itertools.product(bytes.fromhex('00808182'), repeat=length):
+            yield f'rule {bytes(rule).hex(" ")}', whole(rule=rule)
+    for form in (0, 1, 2):
+        for left in (0, 1, 2, 255):
+            for right in (0, 1, 255):
+                yield f'form {form} with {left} and {right}', whole([3, 3], (), [(form, left, right)])
+    for form in (3, 4, 5, 6, 7, 8, 9, 128, 255):
+        for left in range(5):
+            for right in range(5):
+                yield f'form {form} over {left} and {right}', whole(nodes=[SKIP, SKIP, (form, left, right)])
+    for form in (3, 4, 5, 6, 7):
+        yield f'form {form} over one skip, twice', whole(nodes=[SKIP, (form, 0, 0)])
+        yield f'form {form} over a node and itself', whole(nodes=[SKIP, (form, 0, 1)])
+        yield f'form {form} over itself and a node', whole(nodes=[SKIP, (form, 1, 0)])
+        yield f'form {form} over a later node', whole(nodes=[SKIP, (form, 0, 2), SKIP, (form, 1, 2)])
+        yield f'form {form} over 255', whole(nodes=[SKIP, SKIP, (form, 0, 255)])
+    yield 'a later node names an earlier composite twice', whole(nodes=comb(2) + [(SEQUENCE, 2, 2)])
+    yield 'a node named twice and a node not named', whole(nodes=[SKIP, SKIP, SKIP, (SEQUENCE, 0, 1), (SEQUENCE, 3, 0)])
+    yield 'two trees', whole(nodes=comb(2) + comb(1) + [SKIP])
+    yield 'a leaf after the tree', whole(nodes=comb(3) + [SKIP])
+    yield 'a leaf before the tree', whole(nodes=over(SEQUENCE, comb(2), comb(2))[:-1] + [SKIP])
+    for at in range(63):
+        nodes = comb(32)
+        nodes[at] = SKIP if nodes[at] != SKIP else (1, 0, 1)
+        yield f'the largest tree, node {at} another', whole(nodes=nodes)
+
+
+def edges_of_pairs():
+    """every pair and every two pairs of three actions; nine pairs with each two of them at odds"""
+    for a in range(4):
+        for u in range(4):
+            yield f'pair {a} {u}', whole([1] * 3, [(a, u)])
+    some = [(a, u) for a in range(3) for u in range(3)]
+    for first in some:
+        for second in some:
+            yield f'pairs {first[0]} {first[1]} and {second[0]} {second[1]}', whole([1] * 3, [first, second])
+    for i in range(9):
+        for j in range(9):
+            pairs = list(NINE_PAIRS)
+            pairs[i] = (i, j)
+            yield f'nine pairs, second of {i} is first of {j}', whole(TEN, pairs)
+            if i != j:
+                pairs[i] = (j, 9)
+                yield f'nine pairs, first of {i} is first of {j}', whole(TEN, pairs)
+
+
+def edges_of_nesting():
+    """compensations below one another: in a left side they may stand, in a right side not"""
+    inner = over(COMPENSATION, [SKIP], [SKIP])
+    for form in (SEQUENCE, PARALLEL, CHOICE, HANDLER):
+        for depth in range(5):
+            for side in ('left', 'right'):
+                wrapped = inner
+                for _ in range(depth):
+                    wrapped = over(form, wrapped, [SKIP]) if side == 'left' else over(form, [SKIP], wrapped)
+                yield f'compensation {depth} deep {side} of {form}, undone', whole(nodes=over(COMPENSATION, wrapped, [SKIP]))
+                yield f'compensation {depth} deep {side} of {form}, undoing', whole(nodes=over(COMPENSATION, [SKIP], wrapped))
+                yield f'compensation {depth} deep {side} of {form}, both', whole(nodes=over(COMPENSATION, wrapped, wrapped))
+                yield f'compensation {depth} deep {side} of {form}, below', whole(nodes=over(form, over(COMPENSATION, [SKIP], wrapped), inner))
+    for depth in (1, 2, 15, 31):
+        nodes = [SKIP]
+        for _ in range(depth):
+            nodes = over(COMPENSATION, nodes, [SKIP])
+        yield f'{depth} compensations, each the left of the next', whole(nodes=nodes)
+        nodes = [SKIP]
+        for _ in range(depth):
+            nodes = over(COMPENSATION, [SKIP], nodes)
+        yield f'{depth} compensations, each the right of the next', whole(nodes=nodes)
+    # the outer of two is met far from the inner, with other compensations between them
+    chain = over(COMPENSATION, [SKIP], comb(15))
+    yield 'compensation below a long right side, none in it', whole(nodes=over(SEQUENCE, chain, inner))
+    yield 'compensation at the end of a long right side', whole(nodes=over(COMPENSATION, inner, over(SEQUENCE, comb(14), inner)))
+
+
+def cuts():
+    for name, file in (('P1', P1), ('the largest file', LARGEST)):
+        for n in range(len(file)):
+            yield f'{name}, its first {n} bytes', file[:n]
+        for n in (1, 2, 3, 4, 5, 100, 1000):
+            yield f'{name}, {n} zeros after it', file + bytes(n)
+        yield f'{name} twice', file * 2
+        yield f'{name}, a fifth block after it', file + block(5, b'\0')
+
+
+# The checks in document 01's order. Of a block: heading cut, kind, length, body cut, contents; then bytes after block four.
+CHECKS = [(k, c) for k in (1, 2, 3, 4) for c in ('heading', 'kind', 'length', 'body') + {1: (4,), 2: (5,), 3: (6, 7, 8), 4: (9,)}[k]] + [(5, 'trailing')]
+NUMBER = {'heading': 1, 'kind': 2, 'length': 3, 'body': 1, 'trailing': 1}
+# what breaks a check of contents, as bytes that are put before sound ones, so that a body may be cut after them
+BROKEN = {4: b'\x04', 5: bytes([0, 0]), 9: b'\x80'}
+
+
+def nodes_with(faults):
+    """a node list that breaks some of the checks 6, 7, 8"""
+    nodes = NESTED if 8 in faults else [SKIP]
+    if 6 in faults:
+        nodes = over(SEQUENCE, [(1, 1, 0)], nodes)
+    return over(SEQUENCE, [SKIP], nodes)[:-1] if 7 in faults else nodes
+
+
+def with_faults(faults):
+    """a file that breaks these checks"""
+    file = b''
+    for kind in (1, 2, 3, 4):
+        here = [c for k, c in faults if k == kind]
+        body = b''.join(BROKEN[c] for c in here if c in BROKEN) + BODIES[kind]
+        if {6, 7, 8} & set(here):
+            body = flat(nodes_with(here))
+        if 'length' in here:
+            body += {1: b'\x01' * 11, 2: b'\0', 3: b'\x01', 4: b'\x80' * 127}[kind]
+        field = kind + (1 if 'kind' in here else 0)
+        if 'heading' in here:
+            return file + block(field, b'', len(body))[:3]
+        if 'body' in here:
+            return file + block(field, body[:-1], len(body))
+        file += block(field, body)
+    return file + (b'\0' if (5, 'trailing') in faults else b'')
+
+
+def two_faults():
+    """for each check alone, and for each two that one file can break: name, number, file"""
+    say = lambda k, c: f'{NAMES.get(k, "file")} {c}'
+    for i, first in enumerate(CHECKS):
+        yield f'fault: {say(*first)}', NUMBER.get(first[1], first[1]), with_faults([first])
+        for second in CHECKS[i + 1:]:
+            # a file that is cut short has nothing after the cut
+            if first[1] in ('heading', 'body') and (first[0] != second[0] or first[1] == 'heading' and second[1] not in ('kind', 'length')):
+                continue
+            yield f'faults: {say(*first)}, {say(*second)}', NUMBER.get(first[1], first[1]), with_faults([first, second])
+
+
+def main():
+    if len(sys.argv) != 2:
+        sys.exit(__doc__)
+    model = model_in(sys.argv[1])
+    root = os.path.dirname(os.path.dirname(os.path.abspath(__file__)))
+    vectors = []
+
+    def add(name, file, number=None):
+        found = number_of(model, file)
+        if number is not None and found != number:
+            sys.exit(f'{name}: the model says {found}, document 01 {number}')
+        vectors.append((name, found, bytes(file)))
+
+    for name, file in plans_of_document():
+        add(name, file, 0)
+    for name, number, file in examples_of_table():
+        add(f'example of {name}', file, number)
+    for part in (edges_of_lengths, edges_of_headings, edges_of_contents, edges_of_pairs, edges_of_nesting, cuts):
+        for name, file in part():
+            add(name, file)
+    for name, number, file in two_faults():
+        add(name, file, number)
+    rng = random.Random(SEED_PLANS)
+    for n in range(PLANS):
+        add(f'plan {n} of seed {SEED_PLANS}', random_plan(model, rng), 0)
+    rng = random.Random(SEED_DAMAGED)
+    for n in range(DAMAGED):
+        file = random_plan(model, rng)
+        for _ in range(rng.choice([1, 1, 1, 2, 3])):
+            file = damaged(rng, file)
+        add(f'damaged plan {n} of seed {SEED_DAMAGED}', file)
+
+    out = len(vectors).to_bytes(4, 'little')
+    for name, number, file in vectors:
+        text, body = name.encode('ascii'), bytes([number]) + file
+        if len(text) > NAME_ROOM or len(body) > BODY_ROOM:
+            sys.exit(f'{name}: no room for {len(text)} bytes of name and {len(body)} of body')
+        out += len(text).to_bytes(4, 'little') + len(body).to_bytes(4, 'little') + text + body
+    names = [name for name, _, _ in vectors]
+    if len(set(names)) != len(names):
+        sys.exit(f'a name that two vectors have: {next(n for n in names if names.count(n) > 1)}')
+
+    def write(path, data):
+        with open(os.path.join(root, path), 'wb') as file:
+            file.write(data)
+
+    write('crates/compare/data/files', out)
+    write('crates/compare/stdout', f'files: {len(vectors)} vectors, {len(vectors)} agree\n'.encode())
+    write('crates/inspect/stdin', P1)
+    counts = {number: sum(n == number for _, n, _ in vectors) for number in range(10)}
+    print(f'files: {len(vectors)} vectors, {len(out)} bytes; of each number:', ', '.join(f'{k}: {v}' for k, v in counts.items()))
+
+
+main()

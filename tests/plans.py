@@ -1,0 +1,136 @@
+"""Plan files made at random and damaged at random, and the number that the model refuses a file by.
+
+What make_vectors.py and fuzz_inspect.py share. The model is an independent reader of plan files in Python, a folder with oracle.py, which
+stands outside the repository.
+"""
+import importlib.util
+import os
+import sys
+
+# nothing is to be written beside the model
+sys.dont_write_bytecode = True
+
+
+def model_in(folder):
+    """the model's module oracle.py"""
+    spec = importlib.util.spec_from_file_location('oracle', os.path.join(folder, 'oracle.py'))
+    module = importlib.util.module_from_spec(spec)
+    spec.loader.exec_module(module)
+    return module
+
+
+def number_of(model, file):
+    """document 01's number for a file, as the model has it: 0 where it is accepted"""
+    try:
+        model.parse(bytes(file))
+        return 0
+    except model.Refused as refused:
+        return refused.args[0]
+
+
+def block(kind, body, length=None):
+    """a block; `length` is what its heading says, where that is not the body's own"""
+    body = bytes(body)
+    length = len(body) if length is None else length
+    return length.to_bytes(2, 'little') + kind.to_bytes(2, 'little') + body
+
+
+def blocks_of(file):
+    """the parts of a file that its headings mark out, however many there are, and what is left"""
+    parts, at = [], 0
+    while len(file) - at >= 4:
+        end = at + 4 + int.from_bytes(file[at:at + 2], 'little')
+        parts.append(file[at:end])
+        at = end
+    return parts + ([file[at:]] if at < len(file) else [])
+
+
+def in_another_order(rng, nodes):
+    """the same tree with its nodes numbered at random, each after those that it names"""
+    place, left = {}, list(range(len(nodes) - 1))
+    out = []
+    while left:
+        i = rng.choice([i for i in left if nodes[i][0] < 3 or (nodes[i][1] in place and nodes[i][2] in place)])
+        left.remove(i)
+        place[i] = len(place)
+        out.append(i)
+    return [(f, place[l], place[r]) if f >= 3 else (f, l, r) for f, l, r in (nodes[i] for i in out + [len(nodes) - 1])]
+
+
+def random_plan(model, rng):
+    """the file of a plan of 1 to 10 actions and 1 to 32 leaves, a third of them with their nodes in an order other than the model's"""
+    actions = rng.randrange(1, 11)
+    types = [rng.choice([1, 2, 3]) for _ in range(actions)]
+    nodes = model.nodes_of(model.rand_tree(rng, rng.choice([1, 2, 3, 5, 8, 13, 21, 32]), actions))
+    nodes = in_another_order(rng, nodes) if rng.randrange(3) == 0 else nodes
+    rule = model.rand_rule(rng, actions, rng.randrange(0, 7))
+    return model.encode(types, model.rand_pairs(rng, actions), nodes, rule)
+
+
+def random_nodes(model, rng, actions):
+    """a node list: a tree whose compensations may stand anywhere, with up to two of its bytes moved by little"""
+    def tree(leaves):
+        if leaves == 1:
+            return rng.choice([('skip',), ('throw',), ('act', rng.randrange(actions))])
+        left = rng.randrange(1, leaves)
+        return (rng.choice(list(model.FORMNO)), tree(left), tree(leaves - left))
+    body = [b for node in model.nodes_of(tree(rng.choice([1, 2, 3, 5, 8, 21, 32, 33]))) for b in node]
+    for _ in range(rng.choice([0, 1, 1, 2])):
+        at = rng.randrange(len(body))
+        body[at] = (body[at] + rng.choice([1, 2, 255])) % 256
+    return bytes(body)
+
+
+def random_body(model, rng, kind, actions):
+    """a body whose bytes are mostly near those that its kind permits"""
+    action = lambda: rng.choice([rng.randrange(actions)] * 9 + [rng.randrange(256)])
+    if kind == 1:
+        return bytes(rng.choice([1, 2, 3] * 8 + [0, 4]) for _ in range(rng.choice([0, 1, 5, 10, 11])))
+    if kind == 2:
+        return bytes(action() for _ in range(rng.choice([0, 2, 2, 4, 4, 5, 6, 18, 20])))
+    if kind == 3:
+        return random_nodes(model, rng, actions)
+    return bytes(rng.choice([action(), action(), 0x80, 0x81, 0x82]) for _ in range(rng.choice([0, 1, 2, 3, 4, 5, 7, 127, 128])))
+
+
+def random_blocks(model, rng):
+    """the file of a plan with one of its bodies made without regard to the others"""
+    parts = blocks_of(random_plan(model, rng))
+    kind = rng.choice([1, 2, 3, 3, 3, 4, 4])
+    parts[kind - 1] = block(kind, random_body(model, rng, kind, len(parts[0]) - 4))
+    return b''.join(parts)
+
+
+def damaged(rng, file):
+    """the file with one thing done to it"""
+    file = bytearray(file)
+    at = rng.randrange(len(file)) if file else 0
+    what = rng.randrange(9)
+    if what == 0 and file:
+        file[at] = rng.randrange(256)
+    elif what == 1 and file:
+        file[at] = (file[at] + rng.choice([1, 255, 128])) % 256
+    elif what == 2:
+        file[at:at] = bytes([rng.choice([0, 1, 2, 3, 4, 6, 0x80, 0x81, 0x82, rng.randrange(256)])])
+    elif what == 3:
+        del file[at:at + 1]
+    elif what == 4:
+        del file[at:at + rng.randrange(1, 8)]
+    elif what == 5:
+        return bytes(file[:at])
+    elif what == 6:
+        return bytes(file) + bytes(rng.randrange(256) for _ in range(rng.randrange(1, 6)))
+    else:
+        parts = blocks_of(bytes(file))
+        if parts:
+            i, j = rng.randrange(len(parts)), rng.randrange(len(parts))
+            if what == 7:
+                parts[i], parts[j] = parts[j], parts[i]
+            else:
+                # a heading's number moved by little, or a byte of its body made one of a few that matter
+                part = bytearray(parts[i])
+                k = rng.randrange(min(4, len(part))) if rng.random() < .5 else rng.randrange(len(part))
+                part[k] = rng.choice([(part[k] + 1) % 256, (part[k] - 1) % 256, 0, 1, 3, 6, 7, 8, 10, 0x7F, 0x80, 0x83])
+                parts[i] = bytes(part)
+        return b''.join(parts)
+    return bytes(file)
