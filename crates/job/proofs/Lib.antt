@@ -4,3 +4,5 @@ pub mod May
 pub mod Replays
 pub mod Bytes
 pub mod Tidy
+pub mod Outcomes
+pub mod Comes

@@ -1,2 +1,4 @@
 pub mod State
 pub mod Job
+pub mod Offer
+pub mod Demand2

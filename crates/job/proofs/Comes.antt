@@ -1,0 +1,96 @@
+-- An entry may come, by the table of a run that begins, exactly where it continues that run: the theorem on beginnings, carried to the
+-- plan's bytes.
+use mathlib.Core.Path.{_≡_, refl, sym, ap, _∙_}
+use mathlib.Core.Bool.{Bool, true, false, not, cond, true≢false}
+use mathlib.Core.List.{List, [], _∷_, _++_}
+use mathlib.Core.Logic.{_↔_, _⊎_, inl, inr}
+use Prim.Native.Nat.{ℕ, _/_, _%_, _^_, _≤_, _<_}
+use native.Mathlib.Omega.{arith}
+use lib.Dec.{ltb, eqb}
+use lib.ListN.{getD}
+use borrow.Author.Tests.{eqb-true, eqb-false, eq-eqb, ne-eqb, ltb-true, lt-ltb}
+use Rattle.blocks.proofs.Bounded.{decide, both-true}
+use Rattle.process.specs.Process.{Status, ok, fail, Kind, finishes, fails, either, permits, Permits, Process, entry, Run}
+use Rattle.plan.specs.Nodes.{count, form, left}
+use Rattle.plan.specs.PlanFile.{Runnable}
+use Rattle.plan.specs.Tree.{typeKind, leafKind, processOf}
+use Rattle.plan.proofs.Tree.{some-leaf, drawn}
+use Rattle.runs.specs.Beginnings.{Begins, Beginnings}
+use Rattle.runs.specs.Cells.{toldNext}
+use Rattle.runs.specs.declared.cells.Told.{Told}
+use Rattle.runs.proofs.Beginnings.{beginnings}
+use Rattle.job.specs.State.{toldBy, leafType, typePermits, isNext, leafPermits, mayCome}
+use Rattle.job.specs.Offer.{statusNumber}
+use Rattle.job.proofs.Outcomes.{Stands, told-of}
+
+-- what a type permits, as a kind and as a number
+permits-type : (t : ℕ) (s : Status) → permits (typeKind t) s ≡ typePermits t (statusNumber s)
+permits-type t s = go (eqb t 1) (eqb t 2) refl refl s
+  where
+    go : (one two : Bool) → eqb t 1 ≡ one → eqb t 2 ≡ two → (s : Status) → permits (cond one finishes (cond two fails either)) s ≡ cond (eqb (statusNumber s) 1) (not two) (cond (eqb (statusNumber s) 2) (not one) false)
+    go true true e f s = absurd (omega (arith, eqb-true t 1 e, eqb-true t 2 f))
+    go true false e f ok = refl
+    go true false e f fail = refl
+    go false true e f ok = refl
+    go false true e f fail = refl
+    go false false e f ok = refl
+    go false false e f fail = refl
+
+-- only 1 and 2 are outcomes
+outcome-status : (t outcome : ℕ) → typePermits t outcome ≡ true → (s : Status) × (outcome ≡ statusNumber s)
+outcome-status t outcome h = go (eqb outcome 1) (eqb outcome 2) refl refl h
+  where
+    go : (one two : Bool) → eqb outcome 1 ≡ one → eqb outcome 2 ≡ two → cond one (not (eqb t 2)) (cond two (not (eqb t 1)) false) ≡ true → (s : Status) × (outcome ≡ statusNumber s)
+    go true two e f h = (ok, eqb-true outcome 1 e)
+    go false true e f h = (fail, eqb-true outcome 2 f)
+    go false false e f h = absurd (true≢false (sym h))
+
+-- the kind of a leaf is that of its type
+kind-type : (types b : List ℕ) (n : ℕ) → form b n < 3 → leafKind types b n ≡ typeKind (leafType types b n)
+kind-type types b n h = go (eqb (form b n) 0) (eqb (form b n) 1) refl refl
+  where
+    go : (zero one : Bool) → eqb (form b n) 0 ≡ zero → eqb (form b n) 1 ≡ one
+        → cond zero (typeKind (getD types (left b n) 0)) (cond one finishes fails) ≡ typeKind (cond zero (getD types (left b n) 0) (form b n))
+    go true one e f = refl
+    go false true e f = rw (eqb-true (form b n) 1 f)
+    go false false e f =
+        let x = eqb-false (form b n) 0 e in
+        let y = eqb-false (form b n) 1 f in
+        let z : form b n ≡ 2 = omega arith in
+        rw z
+
+module _ (types b : List ℕ) (r : Runnable types b) where
+  abbrev P : Process
+  P = processOf types b
+
+  pub told-begins : Beginnings 1 P
+  told-begins = let d = drawn types b r in beginnings 1 P (d .written) (d .distinct) (d .flat)
+
+  module _ (w : Run) (table : List ℕ) (stands : Stands w table) (begun : Begins P w) where
+    next-is : toldBy b table .next ≡ toldNext 1 P w
+    next-is = ap (λ (t : Told). t .next) (told-of types b r w table stands)
+
+    pub comes : (n outcome : ℕ) → (mayCome types b table n outcome ≡ true) ↔ ((s : Status) × (outcome ≡ statusNumber s) × Begins P (w ++ (entry n s ∷ [])))
+    unfolding mayCome leafPermits
+    comes n outcome = (to, from)
+      where
+        to : mayCome types b table n outcome ≡ true → (s : Status) × (outcome ≡ statusNumber s) × Begins P (w ++ (entry n s ∷ []))
+        to h =
+            let (p, x) = both-true _ _ h in
+            let (c, q) = both-true _ _ p in
+            let (f, t) = both-true _ _ q in
+            let (s, e) = outcome-status (leafType types b n) outcome t in
+            let small = ltb-true (form b n) 3 f in
+            let may : Permits (leafKind types b n) s = ap (λ (k : Kind). permits k s) (kind-type types b n small) ∙ permits-type (leafType types b n) s ∙ ap (typePermits (leafType types b n)) (sym e) ∙ t in
+            (s, e, told-begins .next w begun n s .1 (rw next-is at (eqb-true (toldBy b table .next / 2 ^ n % 2) 1 x), some-leaf types b r (λ m k. (n ≡ m) × Permits k s) .1 (n, ltb-true n (count b) c, small, (refl, may))))
+        from : ((s : Status) × (outcome ≡ statusNumber s) × Begins P (w ++ (entry n s ∷ []))) → mayCome types b table n outcome ≡ true
+        from (s, e, z) =
+            let (h, l) = told-begins .next w begun n s .0 z in
+            let (m, c, small, (same, may)) = some-leaf types b r (λ m k. (n ≡ m) × Permits k s) .0 l in
+            let present : n < count b = rw same c in
+            let plain : form b n < 3 = rw same small in
+            let kind : Permits (leafKind types b n) s = rw same may in
+            let type : typePermits (leafType types b n) outcome ≡ true =
+                rw e (sym (permits-type (leafType types b n) s) ∙ ap (λ (k : Kind). permits k s) (sym (kind-type types b n plain)) ∙ kind) in
+            let bit : isNext (toldBy b table .next) n ≡ true = rw next-is (eq-eqb _ _ h) in
+            rw (lt-ltb n (count b) present, lt-ltb (form b n) 3 plain, type, bit)
