@@ -5,4 +5,8 @@ pub mod Replays
 pub mod Bytes
 pub mod Tidy
 pub mod Outcomes
+pub mod Areas
 pub mod Comes
+pub mod Entries
+pub mod Room
+pub mod Followed

@@ -33,7 +33,7 @@ pub record Stands (w : Run) (table : List ℕ) : Type 0 where
   pub long : length table ≡ 63
   pub same : outcomes table ≡ outcomesAfter noneRun w
 
-zeros-at : (m n : ℕ) → getD {A = ℕ} (replicate m 0) n 0 ≡ 0
+pub zeros-at : (m n : ℕ) → getD {A = ℕ} (replicate m 0) n 0 ≡ 0
 zeros-at zero n = refl
 zeros-at (suc m) zero = refl
 zeros-at (suc m) (suc n) = zeros-at m n

@@ -4,7 +4,10 @@ use mathlib.Core.Path.{_≡_, refl, _∙_, ap₂}
 use mathlib.Core.List.{[], _∷_, _++_, append-assoc, append-nil}
 use mathlib.Core.Logic.{_⊎_, inl, inr, _↔_}
 use Prim.Native.Nat.{ℕ}
-use Rattle.process.specs.Process.{Status, Process, done, leaf, node, entry, Run}
+use mathlib.Core.Bool.{Bool, true, false}
+use lib.Dec.{eqb}
+use borrow.Author.Tests.{eqb-true, eqb-false}
+use Rattle.process.specs.Process.{Status, ok, Process, done, leaf, node, entry, Run}
 use Rattle.process.specs.Figure2.{Complete}
 use Rattle.runs.specs.Cells.{ending, Outcomes, noneRun, setOutcome, outcomesAfter, Holds, cellsOf, toldEnded, toldNext}
 use Rattle.runs.specs.Beginnings.{Begins, Beginnings, BeginningsTold}
@@ -44,6 +47,21 @@ a-leaf : (P : Process) → AsWritten P → (n : ℕ) × (s : Status) × LeafPerm
 a-leaf done w = absurd w
 a-leaf (leaf n k) w = let (s, h) = permitted k in (n, s, (refl, h))
 a-leaf (node f P Q) w = let (n, s, h) = a-leaf P (w .0) in (n, s, inl h)
+
+-- node n is a leaf that permits some status, or no leaf at all
+leaf-or-none : (n : ℕ) (P : Process) → ((s : Status) × LeafPermits n s P) ⊎ Fits n ok P
+leaf-or-none n done = inr tt
+leaf-or-none n (leaf m k) = go (eqb n m) refl
+  where
+    go : (t : Bool) → eqb n m ≡ t → ((s : Status) × LeafPermits n s (leaf m k)) ⊎ Fits n ok (leaf m k)
+    go true e = let (s, h) = permitted k in inl (s, (eqb-true n m e, h))
+    go false e = inr (λ z. absurd (eqb-false n m e z))
+leaf-or-none n (node f P Q) = go (leaf-or-none n P) (leaf-or-none n Q)
+  where
+    go : ((s : Status) × LeafPermits n s P) ⊎ Fits n ok P → ((s : Status) × LeafPermits n s Q) ⊎ Fits n ok Q → ((s : Status) × LeafPermits n s (node f P Q)) ⊎ Fits n ok (node f P Q)
+    go (inl (s, h)) y = inl (s, inl h)
+    go (inr x) (inl (s, h)) = inl (s, inr h)
+    go (inr x) (inr y) = inr (x, y)
 
 module _ (k : ℕ) (P : Process) (g : Within k P) where
   R : WholeRuns P
@@ -95,6 +113,15 @@ module _ (k : ℕ) (P : Process) (g : Within k P) where
         from : Holds (toldNext k P w) n × LeafPermits n s P → Begins P (w ++ (entry n s ∷ []))
         from h = begins (w ++ (entry n s ∷ [])) (join (reached w b) (first (tells (h .1) .0 (h .0) .1) still))
 
+    told-leaves : (n : ℕ) → Holds (toldNext k P w) n → (s : Status) × LeafPermits n s P
+    told-leaves n h = go (leaf-or-none n P)
+      where
+        go : ((s : Status) × LeafPermits n s P) ⊎ Fits n ok P → (s : Status) × LeafPermits n s P
+        go (inl p) = p
+        go (inr f) =
+            let (X, r) = next-iff n ok k T (cellsOf k (after w) P) (shows n ok k (after w) P g f) (marked-within (after w)) .0 h in
+            (ok, rw (unmarked-by (after w) P) at (step-permits n ok r))
+
     ends-told : (s : Status) → (toldEnded k P w ≡ ending s) ↔ Complete P w s
     ends-told s = (λ h. R .from (reach-steps (reached w b) (r-going (reach-fresh P))) (tells .0 h), λ c. let (X, t, x) = R .to c in tells .1 (rw (steps-after noneRun (fresh-is P) t) at x))
       where
@@ -110,6 +137,7 @@ module _ (k : ℕ) (P : Process) (g : Within k P) where
     start = begins [] still;
     cut = λ w z b. (z ++ b .0, b .1, rw append-assoc at (b .2));
     next = λ w b n s. nexts w b n s;
+    told-leaf = λ w b n h. told-leaves w b n h;
     ends = λ w b s. ends-told w b s;
     reaches = λ w b. (b .0, b .1, b .2, complete-length w (b .0) (b .2));
     goes-on = λ w b. goes w b;

@@ -42,6 +42,8 @@ pub record Beginnings (depth : ℕ) (P : Process) : Type 0 where
   pub cut : (w z : Run) → Begins P (w ++ z) → Begins P w
   -- an entry continues a beginning exactly where its leaf is told as next and permits its status
   pub next : (w : Run) → Begins P w → (n : ℕ) (s : Status) → Begins P (w ++ (entry n s ∷ [])) ↔ (Holds (toldNext depth P w) n × LeafPermits n s P)
+  -- a leaf that is told as next is one that may come, with some status
+  pub told-leaf : (w : Run) → Begins P w → (n : ℕ) → Holds (toldNext depth P w) n → (s : Status) × LeafPermits n s P
   -- how the run may end is told exactly where it is complete
   pub ends : (w : Run) → Begins P w → (s : Status) → (toldEnded depth P w ≡ ending s) ↔ Complete P w s
   -- from each beginning an end is reached, with at most the leaves that have not run
