@@ -10,3 +10,4 @@ pub mod Comes
 pub mod Entries
 pub mod Room
 pub mod Followed
+pub mod Good
