@@ -78,7 +78,7 @@ module _ (s : List ℕ) (l : Layout) (acc : readOf s ≡ Accepted l) where
       let x = follows types b runs-on es [] freshTable fresh-reached (ap (λ (x : Replayed). x .ok) (g .state)) in
       subst (Reached types b runs-on (recordOf j)) (ap (λ (x : Replayed). x .table) (g .state)) x
 
-  pub fresh-good : Good (freshJob s)
+  unfoldable pub fresh-good : Good (freshJob s)
   unfolding replay entriesFrom
   fresh-good =
       let few = demand1 .most s l acc in
@@ -126,21 +126,21 @@ module _ (s : List ℕ) (l : Layout) (acc : readOf s ≡ Accepted l) where
       pub taken-so : takeOf j e ≡ record { answer = answer.Told (saying (toldBy b after)); job = withEntry j e }
       taken-so = taking ∙ rw (h, goes-on (recordOf j ++ (runEntry e ∷ [])) after arrived)
 
-      room : 2 * j .taken + 1 < length (j .entries)
+      pub room : 2 * j .taken + 1 < length (j .entries)
       room = omega (arith, g .neat .few, g .sized .entries)
 
       pub record-more : recordOf (withEntry j e) ≡ recordOf j ++ (runEntry e ∷ [])
       record-more = ap (map runEntry) (entries-more (j .entries) (j .taken) (e .leaf) (e .outcome) room) ∙ map-snoc (entriesFrom (j .entries) 0 (j .taken)) e
 
       -- there is room for it, and for one more
-      still-few : j .taken + 1 < 63
+      pub still-few : j .taken + 1 < 63
       still-few =
           let w = recordOf j ++ (runEntry e ∷ []) in
           let n = once-few 62 w (arrived .below) (told-begins types b runs-on .once w (arrived .begins)) in
           let long : length (recordOf j) ≡ j .taken = length-map (entriesFrom (j .entries) 0 (j .taken)) runEntry ∙ entries-length (j .entries) 0 (j .taken) in
           omega (arith, length-append (recordOf j) (runEntry e ∷ []))
 
-      pub next-good : Good (withEntry j e)
+      unfoldable pub next-good : Good (withEntry j e)
       next-good = record {
         plan = g .plan;
         sized = record { file = g .sized .file; entries = simp length-set (g .sized .entries) };

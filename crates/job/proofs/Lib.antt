@@ -11,3 +11,4 @@ pub mod Entries
 pub mod Room
 pub mod Followed
 pub mod Good
+pub mod Standing

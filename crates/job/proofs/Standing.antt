@@ -1,0 +1,122 @@
+-- Wherever a fresh job stands after some entries it is good, and what was last told is told by its table; so it is honest.
+use mathlib.Core.Path.{_≡_, refl, sym, ap, subst, _∙_}
+use mathlib.Core.Bool.{Bool, true, false, true≢false}
+use mathlib.Core.List.{List, [], _∷_, _++_}
+use mathlib.Core.Logic.{_↔_, _⊎_, inl, inr}
+use Prim.Native.Nat.{ℕ, _/_, _%_, _^_}
+use native.Mathlib.Omega.{arith}
+use Rattle.blocks.proofs.Bounded.{decide}
+use Rattle.process.specs.Process.{Status, ok, fail, Process, entry, Run}
+use Rattle.process.specs.Figure2.{Complete}
+use Rattle.plan.specs.Reading.{bytesOf, readOf}
+use Rattle.plan.specs.declared.Layout.{Layout}
+use Rattle.plan.specs.declared.Reading.the-variants.{Accepted}
+use Rattle.runs.specs.Beginnings.{Begins}
+use Rattle.runs.specs.Cells.{Holds, ending, toldEnded, toldNext}
+use Rattle.runs.specs.declared.cells.Ended.{Ended}
+use Rattle.runs.specs.declared.cells.Ended.the-variants as ended
+use Rattle.runs.specs.declared.cells.Told as cells
+use Rattle.job.specs.State.{toldBy, mayCome}
+use Rattle.job.specs.Job.{endOf, saying, refusal, withEntry, takeOf}
+use Rattle.job.specs.Offer.{Standing, onAnswer, next, offer, started, statusNumber, statusOf, runEntry, recordOf}
+use Rattle.job.specs.Demand2.{planProcess, saysEnd, Continues, Honest}
+use Rattle.job.specs.declared.Entry.{Entry}
+use Rattle.job.specs.declared.End.{End}
+use Rattle.job.specs.declared.End.the-variants.{Open, MayEnd}
+use Rattle.job.specs.declared.Status.the-variants.{Succeeded, Failed}
+use Rattle.job.specs.declared.Told.{Told}
+use Rattle.job.specs.declared.Taken.{Taken}
+use Rattle.job.specs.declared.Job.{Job}
+use Rattle.job.proofs.Outcomes.{told-of}
+use Rattle.job.proofs.Comes.{comes, told-begins}
+use Rattle.job.proofs.Followed.{Reached}
+use Rattle.job.proofs.Good.{Good, runs-on, good-reached, fresh-good, not-taken, taken-so, record-more, next-good}
+
+-- what is said of an ending
+said : (x : Ended) (s : Status) → (endOf x ≡ MayEnd (saysEnd s)) ↔ (x ≡ ending s)
+said ended.Open ok = (λ e. cc, λ e. cc)
+said ended.Open fail = (λ e. cc, λ e. cc)
+said ended.Succeeded ok = (λ e. refl, λ e. refl)
+said ended.Succeeded fail = (λ e. cc, λ e. cc)
+said ended.Failed ok = (λ e. cc, λ e. cc)
+said ended.Failed fail = (λ e. refl, λ e. refl)
+
+module _ (s : List ℕ) (l : Layout) (acc : readOf s ≡ Accepted l) where
+  abbrev T : List ℕ
+  T = bytesOf s (l .types)
+
+  abbrev N : List ℕ
+  N = bytesOf s (l .nodes)
+
+  abbrev P : Process
+  P = planProcess s l
+
+  pub record Fine (x : Standing) : Type 0 where
+    pub good : Good s l acc (x .job)
+    pub told : x .told ≡ saying (toldBy N (good .table))
+
+  module _ (x : Standing) (f : Fine x) where
+    abbrev w : Run
+    w = recordOf (x .job)
+
+    reached : Reached T N (runs-on s l acc) w (f .good .table)
+    reached = good-reached s l acc (x .job) (f .good)
+
+    abbrev may : Entry → Bool
+    may e = mayCome T N (f .good .table) (e .leaf) (e .outcome)
+
+    -- an entry may come exactly where it continues the record
+    continues : (e : Entry) → (may e ≡ true) ↔ Continues P w e
+    continues e =
+        let (to, from) = comes T N (runs-on s l acc) w (f .good .table) (reached .stands) (reached .begins) (e .leaf) (e .outcome) in
+        (λ h. let (t, o, z) = to h in record { status = t; outcome = o; begins = z }, λ c. from (c .status, c .outcome, c .begins))
+
+    refused-so : (e : Entry) → (Continues P w e → ⊥) → takeOf (x .job) e ≡ refusal 11 (x .job)
+    refused-so e n = go (decide (may e))
+      where
+        go : (may e ≡ true) ⊎ (may e ≡ false) → takeOf (x .job) e ≡ refusal 11 (x .job)
+        go (inl h) = absurd (n (continues e .0 h))
+        go (inr h) = not-taken s l acc (x .job) (f .good) e h
+
+    told-is : x .told ≡ saying (record { ended = toldEnded 1 P w; next = toldNext 1 P w })
+    told-is = f .told ∙ ap saying (told-of T N (runs-on s l acc) w (f .good .table) (reached .stands))
+
+    pub honest : Honest P x
+    honest = record {
+      begins = reached .begins;
+      takes = λ e c.
+        let h = continues e .1 c in
+        (_, withEntry (x .job) e, taken-so s l acc (x .job) (f .good) e h, record-more s l acc (x .job) (f .good) e h);
+      refuses = refused-so;
+      ends = λ t. (
+        λ h. told-begins T N (runs-on s l acc) .ends w (reached .begins) t .0 (said (toldEnded 1 P w) t .0 (rw told-is at h)),
+        λ c. rw told-is (said (toldEnded 1 P w) t .1 (told-begins T N (runs-on s l acc) .ends w (reached .begins) t .1 c)),
+      );
+      next = λ n. (
+        λ h.
+          let k : Holds (toldNext 1 P w) n = rw told-is at h in
+          let (t, p) = told-begins T N (runs-on s l acc) .told-leaf w (reached .begins) n k in
+          (t, told-begins T N (runs-on s l acc) .next w (reached .begins) n t .1 (k, p)),
+        λ (t, z). rw told-is (told-begins T N (runs-on s l acc) .next w (reached .begins) n t .0 z .0),
+      ) }
+
+    pub next-fine : (e : Entry) → Fine (next x e)
+    unfolding next-good
+    next-fine e = go (decide (may e))
+      where
+        go : (may e ≡ true) ⊎ (may e ≡ false) → Fine (next x e)
+        go (inl h) =
+            let step : Taken → Standing = λ (t : Taken). onAnswer (t .answer) (t .job) (x .told) in
+            subst Fine (sym (ap step (taken-so s l acc (x .job) (f .good) e h))) (record { good = next-good s l acc (x .job) (f .good) e h; told = refl })
+        go (inr h) =
+            let step : Taken → Standing = λ (t : Taken). onAnswer (t .answer) (t .job) (x .told) in
+            subst Fine (sym (ap step (not-taken s l acc (x .job) (f .good) e h))) (record { good = f .good; told = f .told })
+
+  pub started-fine : Fine (started s l)
+  unfolding fresh-good
+  started-fine = record { good = fresh-good s l acc; told = refl }
+
+  pub offered-fine : (es : List Entry) (x : Standing) → Fine x → Fine (offer x es)
+  unfolding offer
+  offered-fine [] x f = f
+  offered-fine (e ∷ es) x f = offered-fine es (next x e) (next-fine x f e)
