@@ -26,7 +26,7 @@ kept r p v i (suc k) h =
     rw (leaf, outcome, kept r p v (i + 1) k (omega arith))
 
 -- one entry more
-last-entry : (r : List ℕ) (i k : ℕ) → entriesFrom r i (k + 1) ≡ entriesFrom r i k ++ (entryAt r (i + k) ∷ [])
+pub last-entry : (r : List ℕ) (i k : ℕ) → entriesFrom r i (k + 1) ≡ entriesFrom r i k ++ (entryAt r (i + k) ∷ [])
 unfolding entriesFrom
 last-entry r i zero = rw (add-zero i)
 last-entry r i (suc k) =

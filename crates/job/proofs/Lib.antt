@@ -12,3 +12,5 @@ pub mod Room
 pub mod Followed
 pub mod Good
 pub mod Standing
+pub mod Real
+pub mod Demand2

@@ -1,0 +1,33 @@
+-- Demand 2, put together from its parts.
+use mathlib.Core.Path.{_≡_, refl, sym, ap, subst, _∙_}
+use mathlib.Core.List.{List, []}
+use Prim.Native.Nat.{ℕ}
+use native.Mathlib.Omega.{arith}
+use Rattle.plan.specs.Reading.{readOf}
+use Rattle.plan.specs.declared.Layout.{Layout}
+use Rattle.plan.specs.declared.Reading.the-variants.{Accepted, Refused}
+use Rattle.job.specs.Job.{noJob, startOn, planOf}
+use Rattle.job.specs.Offer.{Real, offer, started}
+use Rattle.job.specs.Demand2.{Demand2}
+use Rattle.job.specs.declared.Job.{Job}
+use Rattle.job.proofs.Good.{Good}
+use Rattle.job.proofs.Standing.{Fine, honest, started-fine, offered-fine}
+use Rattle.job.proofs.Real.{false-refused}
+
+-- no file is empty
+not-empty : (l : Layout) → readOf [] ≡ Accepted l → ⊥
+not-empty l h = let z : _≡_ {A = ℕ} 0 1 = cc in omega arith
+
+no-job-real : Real noJob → ⊥
+no-job-real r =
+    let f = offered-fine (r .file) (r .layout) (r .accepted) (r .entries) (started (r .file) (r .layout)) (started-fine (r .file) (r .layout) (r .accepted)) in
+    let plan : planOf noJob ≡ r .file = subst (λ (j : Job). planOf j ≡ r .file) (sym (r .is)) (f .good .plan) in
+    not-empty (r .layout) (ap readOf plan ∙ r .accepted)
+
+pub demand2 : Demand2
+demand2 = record {
+  starts = λ s l h. ap (startOn s) h;
+  turns-away = λ s n h. ap (startOn s) h;
+  honest = λ s l h es. honest s l h (offer (started s l) es) (offered-fine s l h es (started s l) (started-fine s l h));
+  false-jobs = false-refused;
+  no-job = no-job-real }
