@@ -12,7 +12,7 @@ use Rattle.job.specs.Demand2.{Demand2}
 use Rattle.job.specs.declared.Job.{Job}
 use Rattle.job.proofs.Good.{Good}
 use Rattle.job.proofs.Standing.{Fine, honest, started-fine, offered-fine}
-use Rattle.job.proofs.Real.{false-refused}
+use Rattle.job.proofs.Real.{false-refused, never-stalls}
 
 -- no file is empty
 not-empty : (l : Layout) → readOf [] ≡ Accepted l → ⊥
@@ -30,4 +30,5 @@ demand2 = record {
   turns-away = λ s n h. ap (startOn s) h;
   honest = λ s l h es. honest s l h (offer (started s l) es) (offered-fine s l h es (started s l) (started-fine s l h));
   false-jobs = false-refused;
-  no-job = no-job-real }
+  no-job = no-job-real;
+  no-stall = never-stalls }

@@ -29,7 +29,7 @@ use Rattle.job.proofs.Tidy.{Tidy, tidy-says}
 use Rattle.job.proofs.Areas.{zero-past, padded-back}
 use Rattle.job.proofs.Outcomes.{zeros-at}
 use Rattle.job.proofs.Entries.{last-entry}
-use Rattle.job.proofs.Good.{Good, fresh-good, taken-so, next-good}
+use Rattle.job.proofs.Good.{Good, fresh-good, not-taken, taken-so, next-good}
 
 -- the first k entries of a record, and zeros after them
 unfoldable firsts : List ℕ → ℕ → List ℕ
@@ -186,19 +186,49 @@ real-job j l z t acc whole =
     let same : at s l acc (j .entries) (j .taken) (t .few) whole (j .taken) ≡ j = rw (tidy-file j z t, tidy-entries j z t, long) in
     record { file = s; layout = l; accepted = acc; entries = entriesFrom (j .entries) 0 (j .taken); is = sym (x .there ∙ same) }
 
--- a job that is not real is refused
-pub false-refused : (j : Job) → Sized j → (Real j → ⊥) → (e : Entry) → takeOf j e ≡ refusal 11 j
-false-refused j z n e = go (decide (tidy j))
+-- every job is refused, or good for its own plan file
+pub refused-or-good : (j : Job) → Sized j → (e : Entry) → (takeOf j e ≡ refusal 11 j) ⊎ ((l : Layout) × (acc : readOf (planOf j) ≡ reading.Accepted l) × Good (planOf j) l acc j)
+refused-or-good j z e = go (decide (tidy j))
   where
+    Found : Type 0
+    Found = (l : Layout) × (acc : readOf (planOf j) ≡ reading.Accepted l) × Good (planOf j) l acc j
     state : Layout → Replayed
     state l = stateAfter (bytesOf (planOf j) (l .types)) (bytesOf (planOf j) (l .nodes)) (j .entries) (j .taken)
     on-state : Tidy j → (l : Layout) → readOf (planOf j) ≡ reading.Accepted l → (state l .ok ≡ true) ⊎ (state l .ok ≡ false)
-        → takeWith (bytesOf (planOf j) (l .types)) (bytesOf (planOf j) (l .nodes)) j e ≡ refusal 11 j
-    on-state t l acc (inl h) = absurd (n (real-job j l z t acc h))
-    on-state t l acc (inr h) = rw h
-    on-plan : Tidy j → (a : Reading) → readOf (planOf j) ≡ a → takeOn j e a ≡ refusal 11 j
+        → (takeWith (bytesOf (planOf j) (l .types)) (bytesOf (planOf j) (l .nodes)) j e ≡ refusal 11 j) ⊎ Found
+    on-state t l acc (inl h) =
+        let whole : state l ≡ record { ok = true; table = state l .table } = ap (λ (q : Bool). record { ok = q; table = state l .table }) h in
+        inr (l, acc, record { plan = refl; sized = z; neat = t; table = state l .table; state = whole })
+    on-state t l acc (inr h) = inl (rw h)
+    on-plan : Tidy j → (a : Reading) → readOf (planOf j) ≡ a → (takeOn j e a ≡ refusal 11 j) ⊎ Found
     on-plan t (reading.Accepted l) acc = on-state t l acc (decide (state l .ok))
-    on-plan t (reading.Refused k) acc = refl
-    go : (tidy j ≡ true) ⊎ (tidy j ≡ false) → takeOf j e ≡ refusal 11 j
-    go (inl h) = ap (λ (t : Bool). cond t (takeOn j e (readOf (planOf j))) (refusal 11 j)) h ∙ on-plan (tidy-says j h) (readOf (planOf j)) refl
-    go (inr h) = ap (λ (t : Bool). cond t (takeOn j e (readOf (planOf j))) (refusal 11 j)) h
+    on-plan t (reading.Refused k) acc = inl refl
+    tidied : Bool → Taken
+    tidied t = cond t (takeOn j e (readOf (planOf j))) (refusal 11 j)
+    go : (tidy j ≡ true) ⊎ (tidy j ≡ false) → (takeOf j e ≡ refusal 11 j) ⊎ Found
+    go (inl h) = elim (on-plan (tidy-says j h) (readOf (planOf j)) refl) [ inl q ↦ inl (ap tidied h ∙ q) | inr g ↦ inr g ]
+    go (inr h) = inl (ap tidied h)
+
+-- a job that is not real is refused
+pub false-refused : (j : Job) → Sized j → (Real j → ⊥) → (e : Entry) → takeOf j e ≡ refusal 11 j
+false-refused j z n e = go (refused-or-good j z e)
+  where
+    go : (takeOf j e ≡ refusal 11 j) ⊎ ((l : Layout) × (acc : readOf (planOf j) ≡ reading.Accepted l) × Good (planOf j) l acc j) → takeOf j e ≡ refusal 11 j
+    go (inl q) = q
+    go (inr (l, acc, g)) = absurd (n (real-job j l z (g .neat) acc (ap (λ (x : Replayed). x .ok) (g .state))))
+
+-- 13 never falls
+pub never-stalls : (j : Job) → Sized j → (e : Entry) → takeOf j e .answer ≡ answer.Refused 13 → ⊥
+never-stalls j z e h = go (refused-or-good j z e)
+  where
+    other : (t : Taken) → takeOf j e ≡ t → t .answer ≡ answer.Refused 13
+    other t q = ap (λ (x : Taken). x .answer) (sym q) ∙ h
+    on-entry : (l : Layout) (acc : readOf (planOf j) ≡ reading.Accepted l) (g : Good (planOf j) l acc j)
+        → (mayCome (bytesOf (planOf j) (l .types)) (bytesOf (planOf j) (l .nodes)) (g .table) (e .leaf) (e .outcome) ≡ true)
+        ⊎ (mayCome (bytesOf (planOf j) (l .types)) (bytesOf (planOf j) (l .nodes)) (g .table) (e .leaf) (e .outcome) ≡ false)
+        → ⊥
+    on-entry l acc g (inl m) = let q = other _ (taken-so (planOf j) l acc j g e m) in let x : _≡_ {A = ℕ} 0 1 = cc in omega arith
+    on-entry l acc g (inr m) = let q = other _ (not-taken (planOf j) l acc j g e m) in let x : _≡_ {A = ℕ} 11 13 = cc in omega arith
+    go : (takeOf j e ≡ refusal 11 j) ⊎ ((l : Layout) × (acc : readOf (planOf j) ≡ reading.Accepted l) × Good (planOf j) l acc j) → ⊥
+    go (inl p) = let q = other _ p in let x : _≡_ {A = ℕ} 11 13 = cc in omega arith
+    go (inr (l, acc, g)) = on-entry l acc g (decide _)

@@ -58,3 +58,5 @@ pub record Demand2 : Type 0 where
   pub false-jobs : (j : Job) → Sized j → (Real j → ⊥) → (e : Entry) → takeOf j e ≡ refusal 11 j
   -- such is the job beside a start's refusal
   pub no-job : Real noJob → ⊥
+  -- 13 never falls
+  pub no-stall : (j : Job) → Sized j → (e : Entry) → takeOf j e .answer ≡ answer.Refused 13 → ⊥
