@@ -45,8 +45,10 @@ padded-back s n h z = ext-getD 0 (take n s ++ replicate (length s - n) 0) s long
   where
     front : length (take n s) ≡ n
     front = length-take-le n s h
+
     long : length (take n s ++ replicate (length s - n) 0) ≡ length s
     long = simp length-append (omega (arith, front, length-replicate {A = ℕ} (length s - n) 0))
+
     go : (i : ℕ) → i < length s → (ltb i n ≡ true) ⊎ (ltb i n ≡ false) → getD (take n s ++ replicate (length s - n) 0) i 0 ≡ getD s i 0
     go i l (inl e) =
         let k = ltb-true i n e in

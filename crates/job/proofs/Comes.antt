@@ -83,6 +83,7 @@ module _ (types b : List ℕ) (r : Runnable types b) where
             let small = ltb-true (form b n) 3 f in
             let may : Permits (leafKind types b n) s = ap (λ (k : Kind). permits k s) (kind-type types b n small) ∙ permits-type (leafType types b n) s ∙ ap (typePermits (leafType types b n)) (sym e) ∙ t in
             (s, e, told-begins .next w begun n s .1 (rw next-is at (eqb-true (toldBy b table .next / 2 ^ n % 2) 1 x), some-leaf types b r (λ m k. (n ≡ m) × Permits k s) .1 (n, ltb-true n (count b) c, small, (refl, may))))
+
         from : ((s : Status) × (outcome ≡ statusNumber s) × Begins P (w ++ (entry n s ∷ []))) → mayCome types b table n outcome ≡ true
         from (s, e, z) =
             let (h, l) = told-begins .next w begun n s .0 z in
@@ -91,6 +92,6 @@ module _ (types b : List ℕ) (r : Runnable types b) where
             let plain : form b n < 3 = rw same small in
             let kind : Permits (leafKind types b n) s = rw same may in
             let type : typePermits (leafType types b n) outcome ≡ true =
-                rw e (sym (permits-type (leafType types b n) s) ∙ ap (λ (k : Kind). permits k s) (sym (kind-type types b n plain)) ∙ kind) in
+            rw e (sym (permits-type (leafType types b n) s) ∙ ap (λ (k : Kind). permits k s) (sym (kind-type types b n plain)) ∙ kind) in
             let bit : isNext (toldBy b table .next) n ≡ true = rw next-is (eq-eqb _ _ h) in
             rw (lt-ltb n (count b) present, lt-ltb (form b n) 3 plain, type, bit)

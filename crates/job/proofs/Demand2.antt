@@ -31,4 +31,5 @@ demand2 = record {
   honest = λ s l h es. honest s l h (offer (started s l) es) (offered-fine s l h es (started s l) (started-fine s l h));
   false-jobs = false-refused;
   no-job = no-job-real;
-  no-stall = never-stalls }
+  no-stall = never-stalls;
+}

@@ -45,7 +45,7 @@ module _ (r : List ℕ) (k leaf outcome : ℕ) (room : 2 * k + 1 < length r) whe
   here : entryAt longer k ≡ record { leaf = leaf; outcome = outcome }
   here =
       let a : getD longer (2 * k) 0 ≡ leaf =
-          getD-set-other (set r (2 * k) leaf) (2 * k + 1) (2 * k) outcome 0 (λ e. omega arith) ∙ getD-set-same r (2 * k) leaf 0 (omega arith) in
+      getD-set-other (set r (2 * k) leaf) (2 * k + 1) (2 * k) outcome 0 (λ e. omega arith) ∙ getD-set-same r (2 * k) leaf 0 (omega arith) in
       let b : getD longer (2 * k + 1) 0 ≡ outcome = getD-set-same (set r (2 * k) leaf) (2 * k + 1) outcome 0 long-enough in
       rw (a, b)
 
@@ -54,8 +54,8 @@ module _ (r : List ℕ) (k leaf outcome : ℕ) (room : 2 * k + 1 < length r) whe
       let z : 0 + k ≡ k = omega arith in
       last-entry longer 0 k
       ∙ ap₂ (λ (l : List Entry) (e : Entry). l ++ (e ∷ []))
-          (kept (set r (2 * k) leaf) (2 * k + 1) outcome 0 k (omega arith) ∙ kept r (2 * k) leaf 0 k (omega arith))
-          (rw z here)
+      (kept (set r (2 * k) leaf) (2 * k + 1) outcome 0 k (omega arith) ∙ kept r (2 * k) leaf 0 k (omega arith))
+      (rw z here)
 
   pub zeros-more : zerosFrom r (2 * k) ≡ true → zerosFrom longer (2 * (k + 1)) ≡ true
   zeros-more h = every-all (λ i. cond (ltb i (2 * (k + 1))) true (eqb (getD longer i 0) 0)) (length longer) (λ i l. go i (omega (arith, length-set (set r (2 * k) leaf) (2 * k + 1) outcome, length-set r (2 * k) leaf)) (decide (ltb i (2 * (k + 1)))))
@@ -65,6 +65,6 @@ module _ (r : List ℕ) (k leaf outcome : ℕ) (room : 2 * k + 1 < length r) whe
       go i l (inr e) =
           let past = ltb-false i (2 * (k + 1)) e in
           let same : getD longer i 0 ≡ getD r i 0 =
-              getD-set-other (set r (2 * k) leaf) (2 * k + 1) i outcome 0 (λ z. omega arith) ∙ getD-set-other r (2 * k) i leaf 0 (λ z. omega arith) in
+          getD-set-other (set r (2 * k) leaf) (2 * k + 1) i outcome 0 (λ z. omega arith) ∙ getD-set-other r (2 * k) i leaf 0 (λ z. omega arith) in
           let zero-there : cond (ltb i (2 * k)) true (eqb (getD r i 0) 0) ≡ true = every-at (λ i. cond (ltb i (2 * k)) true (eqb (getD r i 0) 0)) (length r) i h l in
           rw (e, same) (rw (le-ltb i (2 * k) (omega arith)) at zero-there)

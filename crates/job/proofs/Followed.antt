@@ -68,7 +68,7 @@ module _ (types b : List ℕ) (r : Runnable types b) where
   replay-more (d ∷ es) table after e h m = go (replay-more es) (decide (mayCome types b table (d .leaf) (d .outcome)))
     where
       go : ((table after : List ℕ) (e : Entry) → replay types b table es ≡ record { ok = true; table = after } → mayCome types b after (e .leaf) (e .outcome) ≡ true
-            → replay types b table (es ++ (e ∷ [])) ≡ record { ok = true; table = set after (e .leaf) (e .outcome) })
+          → replay types b table (es ++ (e ∷ [])) ≡ record { ok = true; table = set after (e .leaf) (e .outcome) })
           → (mayCome types b table (d .leaf) (d .outcome) ≡ true) ⊎ (mayCome types b table (d .leaf) (d .outcome) ≡ false)
           → cond (mayCome types b table (d .leaf) (d .outcome)) (replay types b (set table (d .leaf) (d .outcome)) (es ++ (e ∷ []))) (record { ok = false; table = table }) ≡ record { ok = true; table = set after (e .leaf) (e .outcome) }
       go rest (inl q) = rw q (rest (set table (d .leaf) (d .outcome)) after e (rw q at h) m)

@@ -87,7 +87,8 @@ module _ (s : List ℕ) (l : Layout) (acc : readOf s ≡ Accepted l) where
         sized = record { file = simp length-append (omega (arith, length-replicate {A = ℕ} (360 - length s) 0)); entries = refl };
         neat = record { file-fits = few; few = omega arith; file-zeros = padded-zeros s (360 - length s); entries-zeros = zeros-past (replicate 126 0) (2 * 0) (λ i h k. zeros-at 126 i) };
         table = freshTable;
-        state = refl }
+        state = refl;
+      }
 
   -- a run that begins does not stall
   goes-on : (w : Run) (table : List ℕ) → Reached types b runs-on w table → stalled (toldBy b table) ≡ false
@@ -96,9 +97,11 @@ module _ (s : List ℕ) (l : Layout) (acc : readOf s ≡ Accepted l) where
       open-ending : (t : Status) → isOpen (ending t) ≡ false
       open-ending ok = refl
       open-ending fail = refl
+
       either : (t : Bool) → cond t false false ≡ false
       either true = refl
       either false = refl
+
       go : ((t : Status) × (toldEnded 1 Plan w ≡ ending t)) ⊎ ((n : ℕ) × Holds (toldNext 1 Plan w) n) → cond (isOpen (toldEnded 1 Plan w)) (eqb (toldNext 1 Plan w) 0) false ≡ false
       go (inl (t, e)) = rw (e, open-ending t)
       go (inr (n, h)) = rw (ne-eqb (toldNext 1 Plan w) 0 (λ z. holds-none n (rw z at h))) (either (isOpen (toldEnded 1 Plan w)))
@@ -146,4 +149,5 @@ module _ (s : List ℕ) (l : Layout) (acc : readOf s ≡ Accepted l) where
         sized = record { file = g .sized .file; entries = simp length-set (g .sized .entries) };
         neat = record { file-fits = g .neat .file-fits; few = still-few; file-zeros = g .neat .file-zeros; entries-zeros = zeros-more (j .entries) (j .taken) (e .leaf) (e .outcome) room (g .neat .entries-zeros) };
         table = after;
-        state = ap (replay types b freshTable) (entries-more (j .entries) (j .taken) (e .leaf) (e .outcome) room) ∙ replay-more types b runs-on (entriesFrom (j .entries) 0 (j .taken)) freshTable (g .table) e (g .state) h }
+        state = ap (replay types b freshTable) (entries-more (j .entries) (j .taken) (e .leaf) (e .outcome) room) ∙ replay-more types b runs-on (entriesFrom (j .entries) 0 (j .taken)) freshTable (g .table) e (g .state) h;
+      }

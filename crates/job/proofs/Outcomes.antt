@@ -49,7 +49,8 @@ ending-of fail = refl
 pub stands-more : (w : Run) (table : List ℕ) (n : ℕ) (s : Status) → n < 63 → Stands w table → Stands (w ++ (entry n s ∷ [])) (set table n (statusNumber s))
 stands-more w table n s h t = record {
   long = simp length-set (t .long);
-  same = fun-ext (λ i. at i (eqb n i) refl) ∙ sym (two-levels .at-entry noneRun w n s) }
+  same = fun-ext (λ i. at i (eqb n i) refl) ∙ sym (two-levels .at-entry noneRun w n s);
+}
   where
     at : (i : ℕ) (q : Bool) → eqb n i ≡ q → outcomes (set table n (statusNumber s)) i ≡ cond q (ending s) (outcomesAfter noneRun w i)
     at i true e =
@@ -63,14 +64,14 @@ module _ (types b : List ℕ) (r : Runnable types b) where
   cells-of : (table : List ℕ) (i : ℕ) → i < count b → cellsAt b table i ≡ cellsTwo (outcomes table) (processAt types b i)
   cells-of table = node-ind b down (λ i. cellsAt b table i ≡ cellsTwo (outcomes table) (processAt types b i))
       (λ i c f.
-        fold-leaf (leafCells table) (nodeCells b) b i f
-        ∙ two-levels .at-leaf (outcomes table) i (leafKind types b i) (omega (arith, r .nodes-few))
-        ∙ ap (cellsTwo (outcomes table)) (sym (fold-leaf (leafOf types b) (compositeOf b) b i f)))
+      fold-leaf (leafCells table) (nodeCells b) b i f
+      ∙ two-levels .at-leaf (outcomes table) i (leafKind types b i) (omega (arith, r .nodes-few))
+      ∙ ap (cellsTwo (outcomes table)) (sym (fold-leaf (leafOf types b) (compositeOf b) b i f)))
       (λ i c f x y.
-        fold-node (leafCells table) (nodeCells b) b down i c f
-        ∙ ap₂ (nodeCells b i) x y
-        ∙ two-levels .at-node (outcomes table) (form b i) (processAt types b (left b i)) (processAt types b (right b i))
-        ∙ ap (cellsTwo (outcomes table)) (sym (fold-node (leafOf types b) (compositeOf b) b down i c f)))
+      fold-node (leafCells table) (nodeCells b) b down i c f
+      ∙ ap₂ (nodeCells b i) x y
+      ∙ two-levels .at-node (outcomes table) (form b i) (processAt types b (left b i)) (processAt types b (right b i))
+      ∙ ap (cellsTwo (outcomes table)) (sym (fold-node (leafOf types b) (compositeOf b) b down i c f)))
     where
       down : Descending b
       down = parts-smaller types b r

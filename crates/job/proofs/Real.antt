@@ -48,6 +48,7 @@ firsts-in r (suc k) i h l = go (firsts-in r k i) (decide (eqb i (2 * k + 1))) (d
   where
     before : List ℕ
     before = set (firsts r k) (2 * k) (getD r (2 * k) 0)
+
     go : (k ≤ 63 → i < 2 * k → getD (firsts r k) i 0 ≡ getD r i 0)
         → (eqb i (2 * k + 1) ≡ true) ⊎ (eqb i (2 * k + 1) ≡ false) → (eqb i (2 * k) ≡ true) ⊎ (eqb i (2 * k) ≡ false)
         → getD (set before (2 * k + 1) (getD r (2 * k + 1) 0)) i 0 ≡ getD r i 0
@@ -96,6 +97,7 @@ replay-at types b [] e ys table after h k = go (decide (mayCome types b table (e
   where
     same : table ≡ after
     same = ap (λ (x : Replayed). x .table) k
+
     go : (mayCome types b table (e .leaf) (e .outcome) ≡ true) ⊎ (mayCome types b table (e .leaf) (e .outcome) ≡ false) → mayCome types b after (e .leaf) (e .outcome) ≡ true
     go (inl m) = rw same at m
     go (inr m) = absurd (true≢false (sym (rw m at h)))
@@ -137,7 +139,7 @@ module _ (s : List ℕ) (l : Layout) (acc : readOf s ≡ reading.Accepted l) (r 
       let z : 0 + k ≡ k = omega arith in
       let e : taken ≡ k + suc rest = omega arith in
       let split : entriesFrom r 0 taken ≡ entriesFrom r 0 k ++ (entryAt r k ∷ entriesFrom r (k + 1) rest) =
-          ap (entriesFrom r 0) e ∙ entries-split r 0 k (suc rest) ∙ rw z in
+      ap (entriesFrom r 0) e ∙ entries-split r 0 k (suc rest) ∙ rw z in
       let same : entriesFrom r 0 k ≡ entriesFrom (firsts r k) 0 k = entries-same r (firsts r k) 0 k (λ m i. sym (firsts-in r k m (omega arith) (omega arith))) in
       replay-at (bytesOf s (l .types)) (bytesOf s (l .nodes)) (entriesFrom r 0 k) (entryAt r k) (entriesFrom r (k + 1) rest) freshTable (g .table) (rw split at whole) (rw same (g .state))
 
@@ -158,7 +160,8 @@ module _ (s : List ℕ) (l : Layout) (acc : readOf s ≡ reading.Accepted l) (r 
             there =
                 ap (λ (i : ℕ). offer (started s l) (entriesFrom r 0 i) .job) (sym n)
                 ∙ ap (λ (es : List Entry). offer (started s l) es .job) (last-entry r 0 k)
-                ∙ rw z (ap (λ (x : Standing). x .job) (offer-snoc (started s l) (entriesFrom r 0 k) e) ∙ next-job (offer (started s l) (entriesFrom r 0 k)) e ∙ ap (λ (j : Job). takeOf j e .job) (x .there) ∙ ap (λ (t : Taken). t .job) (taken-so s l acc (at k) (x .good) e m) ∙ same) }
+                ∙ rw z (ap (λ (x : Standing). x .job) (offer-snoc (started s l) (entriesFrom r 0 k) e) ∙ next-job (offer (started s l) (entriesFrom r 0 k)) e ∙ ap (λ (j : Job). takeOf j e .job) (x .there) ∙ ap (λ (t : Taken). t .job) (taken-so s l acc (at k) (x .good) e m) ∙ same);
+          }
 
 -- the areas of a tidy job are those of its plan file and its record
 tidy-file : (j : Job) → Sized j → Tidy j → planOf j ++ replicate (360 - length (planOf j)) 0 ≡ j .file
@@ -192,19 +195,24 @@ refused-or-good j z e = go (decide (tidy j))
   where
     Found : Type 0
     Found = (l : Layout) × (acc : readOf (planOf j) ≡ reading.Accepted l) × Good (planOf j) l acc j
+
     state : Layout → Replayed
     state l = stateAfter (bytesOf (planOf j) (l .types)) (bytesOf (planOf j) (l .nodes)) (j .entries) (j .taken)
+
     on-state : Tidy j → (l : Layout) → readOf (planOf j) ≡ reading.Accepted l → (state l .ok ≡ true) ⊎ (state l .ok ≡ false)
         → (takeWith (bytesOf (planOf j) (l .types)) (bytesOf (planOf j) (l .nodes)) j e ≡ refusal 11 j) ⊎ Found
     on-state t l acc (inl h) =
         let whole : state l ≡ record { ok = true; table = state l .table } = ap (λ (q : Bool). record { ok = q; table = state l .table }) h in
         inr (l, acc, record { plan = refl; sized = z; neat = t; table = state l .table; state = whole })
     on-state t l acc (inr h) = inl (rw h)
+
     on-plan : Tidy j → (a : Reading) → readOf (planOf j) ≡ a → (takeOn j e a ≡ refusal 11 j) ⊎ Found
     on-plan t (reading.Accepted l) acc = on-state t l acc (decide (state l .ok))
     on-plan t (reading.Refused k) acc = inl refl
+
     tidied : Bool → Taken
     tidied t = cond t (takeOn j e (readOf (planOf j))) (refusal 11 j)
+
     go : (tidy j ≡ true) ⊎ (tidy j ≡ false) → (takeOf j e ≡ refusal 11 j) ⊎ Found
     go (inl h) = elim (on-plan (tidy-says j h) (readOf (planOf j)) refl) [ inl q ↦ inl (ap tidied h ∙ q) | inr g ↦ inr g ]
     go (inr h) = inl (ap tidied h)
@@ -223,12 +231,14 @@ never-stalls j z e h = go (refused-or-good j z e)
   where
     other : (t : Taken) → takeOf j e ≡ t → t .answer ≡ answer.Refused 13
     other t q = ap (λ (x : Taken). x .answer) (sym q) ∙ h
+
     on-entry : (l : Layout) (acc : readOf (planOf j) ≡ reading.Accepted l) (g : Good (planOf j) l acc j)
         → (mayCome (bytesOf (planOf j) (l .types)) (bytesOf (planOf j) (l .nodes)) (g .table) (e .leaf) (e .outcome) ≡ true)
         ⊎ (mayCome (bytesOf (planOf j) (l .types)) (bytesOf (planOf j) (l .nodes)) (g .table) (e .leaf) (e .outcome) ≡ false)
         → ⊥
     on-entry l acc g (inl m) = let q = other _ (taken-so (planOf j) l acc j g e m) in let x : _≡_ {A = ℕ} 0 1 = cc in omega arith
     on-entry l acc g (inr m) = let q = other _ (not-taken (planOf j) l acc j g e m) in let x : _≡_ {A = ℕ} 11 13 = cc in omega arith
+
     go : (takeOf j e ≡ refusal 11 j) ⊎ ((l : Layout) × (acc : readOf (planOf j) ≡ reading.Accepted l) × Good (planOf j) l acc j) → ⊥
     go (inl p) = let q = other _ p in let x : _≡_ {A = ℕ} 11 13 = cc in omega arith
     go (inr (l, acc, g)) = on-entry l acc g (decide _)

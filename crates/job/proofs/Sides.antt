@@ -42,6 +42,7 @@ leaf-small types b r n c f = go (decide (ltb n 62))
     last-composite : n ≡ 62 → (n ≡ 0) ⊎ ((s : Side) × (m : ℕ) × Names b n s m × Under b m 0) → ⊥
     last-composite e (inl z) = omega arith
     last-composite e (inr (s, m, k, u)) = omega (arith, k .composite)
+
     go : (ltb n 62 ≡ true) ⊎ (ltb n 62 ≡ false) → n < 62
     go (inl e) = ltb-true n 62 e
     go (inr e) =

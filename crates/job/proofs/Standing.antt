@@ -85,8 +85,8 @@ module _ (s : List ℕ) (l : Layout) (acc : readOf s ≡ Accepted l) where
     honest = record {
       begins = reached .begins;
       takes = λ e c.
-        let h = continues e .1 c in
-        (_, withEntry (x .job) e, taken-so s l acc (x .job) (f .good) e h, record-more s l acc (x .job) (f .good) e h);
+          let h = continues e .1 c in
+          (_, withEntry (x .job) e, taken-so s l acc (x .job) (f .good) e h, record-more s l acc (x .job) (f .good) e h);
       refuses = refused-so;
       ends = λ t. (
         λ h. told-begins T N (runs-on s l acc) .ends w (reached .begins) t .0 (said (toldEnded 1 P w) t .0 (rw told-is at h)),
@@ -94,11 +94,12 @@ module _ (s : List ℕ) (l : Layout) (acc : readOf s ≡ Accepted l) where
       );
       next = λ n. (
         λ h.
-          let k : Holds (toldNext 1 P w) n = rw told-is at h in
-          let (t, p) = told-begins T N (runs-on s l acc) .told-leaf w (reached .begins) n k in
-          (t, told-begins T N (runs-on s l acc) .next w (reached .begins) n t .1 (k, p)),
+            let k : Holds (toldNext 1 P w) n = rw told-is at h in
+            let (t, p) = told-begins T N (runs-on s l acc) .told-leaf w (reached .begins) n k in
+            (t, told-begins T N (runs-on s l acc) .next w (reached .begins) n t .1 (k, p)),
         λ (t, z). rw told-is (told-begins T N (runs-on s l acc) .next w (reached .begins) n t .0 z .0),
-      ) }
+      );
+    }
 
     pub next-fine : (e : Entry) → Fine (next x e)
     unfolding next-good

@@ -12,6 +12,15 @@ ghost use Prim.Native.Nat.{_≤_, _+_};
 ghost use lib.ListN.{length};
 ghost use Rattle.plan.specs.Reading.{lengthOk, fault, judged, bodyAt, blockAt, endOf, withRule, withNodes, withPairs, withTypes, readWithin, readOf};
 
+// The limits of a plan file.
+pub const MOST_ACTIONS: u8 = 10;
+
+pub const MOST_PAIRS: u8 = 9;
+
+pub const MOST_NODES: u8 = 63;
+
+pub const MOST_RULE: u8 = 127;
+
 // Where the four bodies of a plan file lie. The number of its actions is `types.len`.
 pub struct Layout {
     pub types: Part,
@@ -143,7 +152,7 @@ fn with_nodes(file: &[u8], types: Part, pairs: Part, nodes: Part) -> Reading
     requires { ⌜ endOf nodes ≤ length (now file) ⌝ }
     ensures { λ r. ⌜ r ≡ withNodes (now (file .entry)) types pairs nodes ⌝ }
 {
-    match block_at(file, nodes.at + nodes.len, 4, 127, types.len) {
+    match block_at(file, nodes.at + nodes.len, 4, MOST_RULE, types.len) {
         Block::Refused(n) => Reading::Refused(n),
         Block::Lies(rule) => with_rule(file, types, pairs, nodes, rule),
     }
@@ -153,7 +162,7 @@ fn with_pairs(file: &[u8], types: Part, pairs: Part) -> Reading
     requires { ⌜ endOf pairs ≤ length (now file) ⌝ }
     ensures { λ r. ⌜ r ≡ withPairs (now (file .entry)) types pairs ⌝ }
 {
-    match block_at(file, pairs.at + pairs.len, 3, 63, types.len) {
+    match block_at(file, pairs.at + pairs.len, 3, MOST_NODES, types.len) {
         Block::Refused(n) => Reading::Refused(n),
         Block::Lies(nodes) => with_nodes(file, types, pairs, nodes),
     }
@@ -183,5 +192,5 @@ pub fn read_within(file: &[u8], action_limit: u8, pair_limit: u8) -> Reading
 pub fn read(file: &[u8]) -> Reading
     ensures { λ r. ⌜ r ≡ readOf (now (file .entry)) ⌝ }
 {
-    read_within(file, 10, 9)
+    read_within(file, MOST_ACTIONS, MOST_PAIRS)
 }
