@@ -21,7 +21,8 @@ undoneBy pairs set a i = eqb (first pairs i) a && finished set (second pairs i)
 abbrev pub undosFinished : List ℕ → ℕ → ℕ → ℕ
 undosFinished pairs set a = total (pairCount pairs) (λ i. one (undoneBy pairs set a i))
 
--- The two values, from whether the action is finished and how many of its undos are.
+-- The two values, from whether the action is finished and how many of its undos are: positive is "a and not u", negative is "neither, or
+-- both".
 abbrev pub literalOf : Bool → ℕ → Value
 literalOf a undos = record {
   positive = a && eqb undos 0;

@@ -1,4 +1,4 @@
-// Whether an action set satisfies a rule, from the rule's bytes and the pairs' bytes alone.
+// Whether an action set satisfies a rule. The rule and the pairs are lent; nothing else of a plan is seen.
 ghost use mathlib.Core.Path.{_≡_};
 ghost use mathlib.Core.List.{List};
 ghost use mathlib.Core.Bool.{_&&_};
@@ -11,13 +11,13 @@ ghost use Rattle.rule.specs.Value.{push, top, below, step, satisfies};
 ghost use Rattle.rule.specs.Words.{Holds};
 
 // The two values of a part of the rule.
-pub struct Value {
+struct Value {
     pub positive: bool,
     pub negative: bool,
 }
 
-// A stack of 64 values, the last one in bit 0.
-pub struct Stack {
+// A stack of 64 values, the last one in bit 0 of the two words. A place without a value is 0 in both.
+struct Stack {
     pub positives: u64,
     pub negatives: u64,
 }
@@ -32,6 +32,19 @@ fn is_finished(set: usize, action: u8) -> bool
     false
 }
 
+// 1 where the pair is one of the action, and its undo is finished.
+fn undone_by(first: u8, undo: u8, action: u8, set: usize) -> usize
+    ensures { λ r. ⌜ r ≡ one (eqb first action && finished set undo) ⌝ }
+{
+    if first == action {
+        if is_finished(set, undo) {
+            return 1;
+        }
+        return 0;
+    }
+    0
+}
+
 // How many undos of the action are finished.
 fn undos_finished(pairs: &[u8], action: u8, set: usize) -> usize
     ensures { λ r. ⌜ r ≡ undosFinished (now (pairs .entry)) set action ⌝ }
@@ -44,19 +57,6 @@ fn undos_finished(pairs: &[u8], action: u8, set: usize) -> usize
         i += 1;
     }
     undos
-}
-
-// 1 where the pair is one of the action, and its undo is finished.
-fn undone_by(first: u8, undo: u8, action: u8, set: usize) -> usize
-    ensures { λ r. ⌜ r ≡ one (eqb first action && finished set undo) ⌝ }
-{
-    if first == action {
-        if is_finished(set, undo) {
-            return 1;
-        }
-        return 0;
-    }
-    0
 }
 
 // The two values of the action.
@@ -76,6 +76,7 @@ fn literal_of(pairs: &[u8], action: u8, set: usize) -> Value
     }
 }
 
+// Not swaps the two values.
 fn not_of(v: Value) -> Value
     ensures { λ r. ⌜ r ≡ swapped v ⌝ }
 {
@@ -85,6 +86,7 @@ fn not_of(v: Value) -> Value
     }
 }
 
+// And and or take the negative value by De Morgan.
 fn and_of(v: Value, w: Value) -> Value
     ensures { λ r. ⌜ r ≡ both v w ⌝ }
 {
@@ -103,6 +105,7 @@ fn or_of(v: Value, w: Value) -> Value
     }
 }
 
+// The last value; of an empty stack, one that is neither positive nor negative.
 fn last(words: Stack) -> Value
     ensures { λ r. ⌜ ((stack : List Value) → Holds words stack → r ≡ top stack) ⌝ }
 {
@@ -112,6 +115,7 @@ fn last(words: Stack) -> Value
     }
 }
 
+// The stack without its last value.
 fn dropped(words: Stack) -> Stack
     ensures { λ r. ⌜ ((stack : List Value) → Holds words stack → Holds r (below stack)) ⌝ }
 {
@@ -121,7 +125,7 @@ fn dropped(words: Stack) -> Stack
     }
 }
 
-// The word with its bits one place up, the highest lost, and `b` in bit 0.
+// The bits one place up, the highest lost, and `b` in bit 0.
 fn raised(word: u64, b: bool) -> u64
     ensures { λ r. ⌜ r ≡ word % 2 ^ 63 * 2 + one b ⌝ }
 {
@@ -132,6 +136,7 @@ fn raised(word: u64, b: bool) -> u64
     rest
 }
 
+// The stack with a value more; beyond 64 the oldest is lost.
 fn pushed(words: Stack, v: Value) -> Stack
     ensures { λ r. ⌜ ((stack : List Value) → Holds words stack → Holds r (push v stack)) ⌝ }
 {
@@ -141,7 +146,7 @@ fn pushed(words: Stack, v: Value) -> Stack
     }
 }
 
-// What the byte `t` of the rule does to the stack.
+// What the byte `t` of a rule does to the stack: not, and, or, or an action.
 fn stepped(words: Stack, t: u8, pairs: &[u8], set: usize) -> Stack
     ensures { λ r. ⌜ ((stack : List Value) → Holds words stack → Holds r (step (now (pairs .entry)) set t stack)) ⌝ }
 {
@@ -161,7 +166,7 @@ fn stepped(words: Stack, t: u8, pairs: &[u8], set: usize) -> Stack
     pushed(words, literal_of(pairs, t, set))
 }
 
-// Whether the set satisfies the rule.
+// Whether the set satisfies the rule: bit a of the set is there where action a finished.
 pub fn satisfies(rule: &[u8], pairs: &[u8], set: usize) -> bool
     ensures { λ r. ⌜ r ≡ satisfies (now (rule .entry)) (now (pairs .entry)) set ⌝ }
 {
