@@ -3,12 +3,13 @@ use mathlib.Core.Path.{ap}
 use mathlib.Core.List.{List}
 use Prim.Native.Nat.{ℕ}
 use Rattle.rule.specs.declared.Value.{Value}
-use Rattle.rule.specs.Value.{top}
+use Rattle.rule.specs.Value.{top, satisfies}
 use Rattle.rule.specs.Laws.{Laws}
 use Rattle.rule.proofs.Literal.{with-undo, without-undo, undo-alone}
 use Rattle.rule.proofs.Meaning.{one-part, opposite}
 
 pub laws : (pairs : List ℕ) (set : ℕ) → Laws pairs set
+unfolding satisfies
 laws pairs set = record {
   with-undo = with-undo pairs set;
   without-undo = without-undo pairs set;

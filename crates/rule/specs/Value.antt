@@ -37,5 +37,5 @@ values pairs set stack [] = stack
 values pairs set stack (t ∷ bytes) = values pairs set (step pairs set t stack) bytes
 
 -- "A set satisfies the rule where the positive value of the one part that remains is true for it."
-abbrev pub satisfies : List ℕ → List ℕ → ℕ → Bool
+unfoldable pub satisfies : List ℕ → List ℕ → ℕ → Bool
 satisfies rule pairs set = top (values pairs set [] rule) .positive

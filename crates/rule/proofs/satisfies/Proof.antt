@@ -4,7 +4,7 @@ use mathlib.Core.List.{List, []}
 use Prim.Native.Nat.{_-_, _≤_}
 use lib.ListN.{length, drop, getD}
 use Rattle.rule.specs.declared.Value.{Value}
-use Rattle.rule.specs.Value.{top, step, values}
+use Rattle.rule.specs.Value.{top, step, values, satisfies}
 use Rattle.rule.specs.Words.{word, Holds}
 use Rattle.rule.proofs.Scan.{values-step, values-end}
 use borrow.Author.Needs.{needs}
@@ -46,6 +46,7 @@ last-requires : tie.Need-last-requires Inv-loop μ-loop
 last-requires c κs = search needs
 
 returns : tie.Need-returns Inv-loop μ-loop
+unfolding satisfies
 returns c =
     let l = c .before .before in
     let a = l .before .before .before .args in
