@@ -14,7 +14,7 @@ use Rattle.plan.specs.Rule.{Rule}
 use Rattle.rule.specs.declared.Value.{Value}
 use Rattle.rule.specs.Literal.{literal}
 use Rattle.rule.specs.Meaning.{swapped, both, either, meaning}
-use Rattle.rule.specs.Value.{push, step, values}
+use Rattle.rule.specs.Value.{places, push, step, values}
 use Rattle.rule.proofs.Literal.{without-undo}
 
 -- a part has a byte
@@ -40,10 +40,10 @@ module _ (pairs : List ℕ) (set : ℕ) where
       → values pairs set stack (p ++ rest) ≡ values pairs set (v ∷ stack) rest
 
   -- a byte that pushes v
-  pushes : (t : ℕ) (v : Value) (stack before : List Value) (rest : List ℕ) → step pairs set t before ≡ push v stack → length stack ≤ 63
+  pushes : (t : ℕ) (v : Value) (stack before : List Value) (rest : List ℕ) → step pairs set t before ≡ push v stack → length stack < places
       → values pairs set before (t ∷ rest) ≡ values pairs set (v ∷ stack) rest
   unfolding values
-  pushes t v stack before rest e room = rw (e, take-all 63 stack room)
+  pushes t v stack before rest e room = ap (λ (s : List Value). values pairs set s rest) (e ∙ take-all places (v ∷ stack) room)
 
   puts-literal : (a : ℕ) → a < 128 → Puts (a ∷ []) (literal pairs set a)
   unfolding Puts

@@ -1,5 +1,5 @@
 -- The value of a rule from its bytes, for any list of bytes: a stack of values, the last one first, to which each byte does its part.
--- It has 64 places: a rule of at most 127 bytes never needs more.
+-- A rule of at most 127 bytes never needs more than its 64 places.
 use mathlib.Core.Bool.{Bool, false, cond}
 use mathlib.Core.List.{List, [], _∷_}
 use Prim.Native.Nat.{ℕ}
@@ -9,9 +9,13 @@ use Rattle.rule.specs.declared.Value.{Value}
 use Rattle.rule.specs.Literal.{literal}
 use Rattle.rule.specs.Meaning.{swapped, both, either}
 
--- a value more; beyond 64 the oldest is dropped
+-- how many values the stack can hold
+abbrev pub places : ℕ
+places = 64
+
+-- a value more; where the stack is full the oldest is lost
 abbrev pub push : Value → List Value → List Value
-push v stack = v ∷ take 63 stack
+push v stack = take places (v ∷ stack)
 
 -- the last value; of an empty stack, one that is neither positive nor negative
 abbrev pub top : List Value → Value
