@@ -12,7 +12,8 @@ use Rattle.blocks.proofs.Bounded.{total-has, total-none, total-single}
 use Rattle.plan.specs.Pairs.{Pairs, pairCount, first, second}
 use Rattle.plan.specs.NodeTests.{one}
 use Rattle.rule.specs.Literal.{finished, undoneBy, undosFinished, literalOf, literal}
-use Rattle.rule.specs.Laws.{paired, plain, neither}
+use Rattle.rule.specs.Value.{neither}
+use Rattle.rule.specs.Laws.{paired, plain}
 
 by-one-undo : (a u : Bool) → literalOf a (one u) ≡ paired a u
 by-one-undo true true = refl
@@ -29,10 +30,12 @@ module _ (pairs : List ℕ) (set : ℕ) where
   term : ℕ → ℕ → ℕ
   term a i = one (undoneBy pairs set a i)
 
+  -- a pair of another action adds nothing
   another : (a i : ℕ) → (first pairs i ≡ a → ⊥) → term a i ≡ 0
   unfolding term
   another a i other = simp (ne-eqb (first pairs i) a other)
 
+  -- a pair of the action itself adds 1 where its undo is finished
   itself : (i : ℕ) → term (first pairs i) i ≡ one (finished set (second pairs i))
   unfolding term
   itself i = simp (eq-eqb (first pairs i) (first pairs i) refl)

@@ -24,6 +24,7 @@ a-byte (rule.not {p} r) = simp length-append (omega arith)
 a-byte (rule.and {p} {q} r s) = simp length-append (omega arith)
 a-byte (rule.or {p} {q} r s) = simp length-append (omega arith)
 
+-- De Morgan, for a part whose negative value is the opposite of its positive one
 not-and : (a b : Bool) → (not a || not b) ≡ not (a && b)
 not-and true b = refl
 not-and false b = refl

@@ -10,7 +10,7 @@ use Rattle.plan.specs.Rule.{Rule}
 use Rattle.rule.specs.declared.Value.{Value}
 use Rattle.rule.specs.Literal.{finished, literal}
 use Rattle.rule.specs.Meaning.{meaning}
-use Rattle.rule.specs.Value.{values, satisfies}
+use Rattle.rule.specs.Value.{neither, values, satisfies}
 
 -- "For action a with undo u: positive is "a and not u"; negative is "neither, or both"."
 abbrev pub paired : Bool → Bool → Value
@@ -19,10 +19,6 @@ paired a u = record { positive = a && not u; negative = (not a && not u) || (a &
 -- "Without a pair, plain presence and absence."
 abbrev pub plain : Bool → Value
 plain a = record { positive = a; negative = not a }
-
--- "both values are false"
-abbrev pub neither : Value
-neither = record { positive = false; negative = false }
 
 pub record Laws (pairs : List ℕ) (set : ℕ) : Type 0 where
   -- an action with its undo

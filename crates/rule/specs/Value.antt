@@ -17,9 +17,13 @@ places = 64
 abbrev pub push : Value → List Value → List Value
 push v stack = take places (v ∷ stack)
 
+-- both values false
+abbrev pub neither : Value
+neither = record { positive = false; negative = false }
+
 -- the last value; of an empty stack, one that is neither positive nor negative
 abbrev pub top : List Value → Value
-top [] = record { positive = false; negative = false }
+top [] = neither
 top (v ∷ stack) = v
 
 -- the values before it
