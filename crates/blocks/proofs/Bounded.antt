@@ -102,7 +102,7 @@ module _ (g : ℕ → ℕ) where
           (i, omega arith, m)
       go rest false e = let k = eqb-false (g n) 0 e in (n, omega arith, omega arith)
 
-  total-none : (n : ℕ) → ((i : ℕ) → i < n → g i ≡ 0) → total n g ≡ 0
+  pub total-none : (n : ℕ) → ((i : ℕ) → i < n → g i ≡ 0) → total n g ≡ 0
   unfolding total
   total-none zero h = refl
   total-none (suc n) h = omega (arith, h n (omega arith), total-none n (λ i l. h i (omega arith)))

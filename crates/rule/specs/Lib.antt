@@ -1,0 +1,6 @@
+pub mod Literal
+pub mod Meaning
+pub mod Value
+pub mod Words
+pub mod Laws
+pub mod TriedRules
