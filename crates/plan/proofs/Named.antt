@@ -11,7 +11,7 @@ use Rattle.blocks.proofs.Bounded.{decide, every-at, every-all, total-has, total
 use Rattle.plan.specs.Nodes.{count, form, left, right, Side, on-left, on-right, child, Names, NamedOnce, EachNamedOnce}
 use Rattle.plan.specs.NodeTests.{one, naming, timesNamed, namedOk}
 
-left-not-right : on-left ≡ on-right → ⊥
+pub left-not-right : on-left ≡ on-right → ⊥
 left-not-right e = let z : _≡_ {A = ℕ} 0 1 = cc in omega arith
 
 module _ (b : List ℕ) (j : ℕ) where

@@ -12,10 +12,8 @@ use borrow.Author.Tests.{eqb-true, eqb-false, eq-eqb}
 use Rattle.blocks.proofs.Bounded.{decide, every-at, every-all}
 use Rattle.plan.specs.Nodes.{count, form, left, right, Side, on-left, on-right, child, Names, EachNamedOnce, Under, itself, named, NotNested, Descending}
 use Rattle.plan.specs.NodeTests.{holding, noCompensation, holds, undoOk, nestedOk}
+use Rattle.plan.proofs.Named.{left-not-right}
 use Rattle.plan.proofs.Fold.{node-ind, fold-leaf, fold-node}
-
-left-not-right : on-left ≡ on-right → ⊥
-left-not-right e = let z : _≡_ {A = ℕ} 0 1 = cc in omega arith
 
 -- a compensation below either part is held
 holding-some : (f : ℕ) (x y : Bool) → (x ≡ true) ⊎ (y ≡ true) → holding f x y ≡ true
