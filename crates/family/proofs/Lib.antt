@@ -3,5 +3,5 @@ pub mod Bits
 pub mod Shifts
 pub mod Masks
 pub mod Words
-pub mod Spreads
+pub mod Tables
 pub mod Products

@@ -1,11 +1,12 @@
--- The steps of the fast product: the actions of one set are added to every set of a word, or of a family.
--- Only the contracts of the private functions cite these; `Product` says what comes of them.
+-- The steps of the fast product: the actions of a set are added to every set of a word, a table of such words is made, and its words are
+-- joined. Only the contracts of the private functions cite these; `Product` says what comes of them.
 use mathlib.Core.Path.{_≡_}
 use mathlib.Core.Logic.{_⊎_}
 use mathlib.Core.List.{List}
-use Prim.Native.Nat.{ℕ, _%_, _<_}
+use Prim.Native.Nat.{ℕ, _+_, _*_, _^_, _<_}
 use lib.Bits.{bitOr}
-use Rattle.family.specs.Family.{bitAt, In, Union}
+use lib.ListN.{getD}
+use Rattle.family.specs.Family.{bitAt, In}
 
 -- j is x with a bit of the word w.
 pub record FromBit (w x j : ℕ) : Type 0 where
@@ -19,29 +20,38 @@ pub record Spread (w x r : ℕ) : Type 0 where
   pub sound : (j : ℕ) → j < 64 → bitAt r j ≡ 1 → FromBit w x j
   pub complete : (i : ℕ) → i < 64 → bitAt w i ≡ 1 → bitAt r (bitOr x i) ≡ 1
 
--- t is x with a set of b.
-pub record FromSet (b : List ℕ) (x t : ℕ) : Type 0 where
+-- The table has the word w with x, for each x below n.
+abbrev pub Spreads : ℕ → ℕ → List ℕ → Type 0
+Spreads w n table = (x : ℕ) → x < n → Spread w x (getD table x 0)
+
+-- The table r has the words of s with x below 2 ^ k, and the same with action k.
+pub record Doubled (s : List ℕ) (k : ℕ) (r : List ℕ) : Type 0 where
+  pub kept : (x : ℕ) → x < 2 ^ k → getD r x 0 ≡ getD s x 0
+  pub added : (x : ℕ) → x < 2 ^ k → Spread (getD s x 0) (2 ^ k) (getD r (2 ^ k + x) 0)
+
+-- Bit j is in the word of the table at a bit of u.
+pub record FromTable (u : ℕ) (table : List ℕ) (j : ℕ) : Type 0 where
+  pub place : ℕ
+  pub small : place < 64
+  pub on : bitAt u place ≡ 1
+  pub has : bitAt (getD table place 0) j ≡ 1
+
+-- The word r has the bits of the table's words at the bits of u below n.
+pub record Picked (u : ℕ) (table : List ℕ) (n r : ℕ) : Type 0 where
+  pub sound : (j : ℕ) → bitAt r j ≡ 1 → FromTable u table j
+  pub complete : (x : ℕ) → x < n → bitAt u x ≡ 1 → (j : ℕ) → bitAt (getD table x 0) j ≡ 1 → bitAt r j ≡ 1
+
+-- t is the union of a set of a and a set of the word w, which is word i of a family.
+pub record FromWord (a : List ℕ) (w i t : ℕ) : Type 0 where
   pub set : ℕ
-  pub within : In b set
-  pub is : bitOr x set ≡ t
+  pub bit : ℕ
+  pub in-left : In a set
+  pub small : bit < 64
+  pub on : bitAt w bit ≡ 1
+  pub is : bitOr set (i * 64 + bit) ≡ t
 
--- The family r has the sets x | y of the sets y of b.
-pub record Mapped (b : List ℕ) (x : ℕ) (r : List ℕ) : Type 0 where
-  pub sound : (t : ℕ) → In r t → FromSet b x t
-  pub complete : (y : ℕ) → In b y → In r (bitOr x y)
-
--- The family n has the sets of r, and the sets x | y of the sets y of m.
-pub record Placed (r m : List ℕ) (x : ℕ) (n : List ℕ) : Type 0 where
-  pub sound : (t : ℕ) → In n t → In r t ⊎ FromSet m x t
+-- The family n has the sets of r and these unions.
+pub record Grown (a : List ℕ) (w i : ℕ) (r n : List ℕ) : Type 0 where
+  pub sound : (t : ℕ) → In n t → In r t ⊎ FromWord a w i t
   pub keeps : (t : ℕ) → In r t → In n t
-  pub complete : (y : ℕ) → In m y → In n (bitOr x y)
-
--- Bit s % 64 of the word r is 1 for each set s of a.
-abbrev pub Columns : List ℕ → ℕ → Type 0
-Columns a r = (s : ℕ) → In a s → bitAt r (s % 64) ≡ 1
-
--- The family n has the sets of r, and the unions of a set of a whose low half is x and a set of b.
-pub record Grown (a b : List ℕ) (x : ℕ) (r n : List ℕ) : Type 0 where
-  pub sound : (t : ℕ) → In n t → In r t ⊎ Union a b t
-  pub keeps : (t : ℕ) → In r t → In n t
-  pub complete : (s y : ℕ) → s % 64 ≡ x → In a s → In b y → In n (bitOr s y)
+  pub complete : (s y : ℕ) → In a s → y < 64 → bitAt w y ≡ 1 → In n (bitOr s (i * 64 + y))

@@ -5,7 +5,7 @@ ghost use Prim.Native.Nat.{ℕ, _<_, _^_, _*_};
 ghost use lib.Dec.{eqb};
 ghost use lib.ListN.{getD};
 ghost use Rattle.family.specs.Family.{hasAt, Empty, Single, Joined, Product, TellsEmpty};
-ghost use Rattle.family.specs.Steps.{Spread, Mapped, Placed, Columns, Grown};
+ghost use Rattle.family.specs.Steps.{Spread, Doubled, Spreads, Picked, Grown};
 
 // The family with no set.
 pub fn empty() -> [u64; 16]
@@ -83,99 +83,86 @@ fn with_action(w: u64, k: usize) -> u64
     (w | (w << s)) & m
 }
 
-// The sets of a word, the actions of x added to each.
-fn with_actions(w: u64, x: usize) -> u64
-    requires { ⌜ x < 64 ⌝ }
-    ensures { λ r. ⌜ Spread w x r ⌝ }
+// The table of the sets of a word with each x below 2 ^ k, and with action k too: twice as long.
+fn doubled(s: [u64; 64], k: usize) -> [u64; 64]
+    requires { ⌜ k < 6 ⌝ }
+    ensures { λ r. ⌜ Doubled s k r ⌝ }
 {
-    let mut r = w;
+    let mut r = s;
+    let n = 1usize << k;
+    let mut j = 0;
+    while j < n {
+        let w = with_action(r[j], k);
+        r[n + j] = w;
+        j += 1;
+    }
+    r
+}
+
+// The sets of a word with x, for each x below 64.
+fn spreads(w: u64) -> [u64; 64]
+    ensures { λ r. ⌜ Spreads w 64 r ⌝ }
+{
+    let mut s = [0u64; 64];
+    s[0] = w;
     let mut k = 0;
     while k < 6 {
-        if (x >> k) % 2 == 1 {
-            r = with_action(r, k);
-        }
+        let d = doubled(s, k);
+        s = d;
         k += 1;
     }
-    r
+    s
 }
 
-// The sets of a family, the actions of x added to each; x has low actions only, so sets stay in their word.
-fn with_low(b: [u64; 16], x: usize) -> [u64; 16]
-    requires { ⌜ x < 64 ⌝ }
-    ensures { λ r. ⌜ Mapped b x r ⌝ }
-{
-    let mut r = [0u64; 16];
-    let mut i = 0;
-    while i < 16 {
-        let w = with_actions(b[i], x);
-        r[i] = w;
-        i += 1;
-    }
-    r
-}
-
-// The family r, and the sets of m with the high actions h * 64 added to each: whole words move.
-fn place(r: [u64; 16], m: [u64; 16], h: usize) -> [u64; 16]
-    requires { ⌜ h < 16 ⌝ }
-    ensures { λ n. ⌜ Placed r m (h * 64) n ⌝ }
-{
-    let mut n = r;
-    let mut i = 0;
-    while i < 16 {
-        let t = h | i;
-        n[t] = n[t] | m[i];
-        i += 1;
-    }
-    n
-}
-
-// The low halves that the sets of a have, as bits of one word.
-fn columns(a: [u64; 16]) -> u64
-    ensures { λ r. ⌜ Columns a r ⌝ }
+// The words of the table at the bits of u.
+fn picked(u: u64, s: &[u64; 64]) -> u64
+    ensures { λ r. ⌜ Picked u (now (s .entry)) 64 r ⌝ }
 {
     let mut r = 0;
-    let mut i = 0;
-    while i < 16 {
-        r = r | a[i];
-        i += 1;
+    let mut x = 0;
+    while x < 64 {
+        if (u >> x) % 2 == 1 {
+            r = r | s[x];
+        }
+        x += 1;
     }
     r
 }
 
-// The family r, and the unions of a set of a whose low half is x and a set of b.
-fn grow(r: [u64; 16], a: [u64; 16], b: [u64; 16], x: usize) -> [u64; 16]
-    requires { ⌜ x < 64 ⌝ }
-    ensures { λ n. ⌜ Grown a b x r n ⌝ }
+// The family r, and the unions of a set of a and a set of the word w, which is word i of a family.
+fn grow(r: [u64; 16], a: [u64; 16], w: u64, i: usize) -> [u64; 16]
+    requires { ⌜ i < 16 ⌝ }
+    ensures { λ n. ⌜ Grown a w i r n ⌝ }
 {
-    let m = with_low(b, x);
+    let s = spreads(w);
     let mut n = r;
     let mut h = 0;
     while h < 16 {
-        if member(a, h * 64 + x) {
-            let p = place(n, m, h);
-            n = p;
+        if a[h] != 0 {
+            let t = h | i;
+            n[t] = n[t] | picked(a[h], &s);
         }
         h += 1;
     }
     n
 }
 
-// The unions of a set of a and a set of b: the sets of a are taken by their low halves, and each low half is added to b once.
+// The unions of a set of a and a set of b. For each word of b that has sets, and each low half x, the sets of that word with x are
+// computed once; then whole words are joined.
 pub fn product(a: [u64; 16], b: [u64; 16]) -> [u64; 16]
     ensures { λ r. ⌜ Product a b r ⌝ }
 {
     let mut r = [0u64; 16];
-    if is_empty(b) {
+    if is_empty(a) {
         return r;
     }
-    let used = columns(a);
-    let mut x = 0;
-    while x < 64 {
-        if (used >> x) % 2 == 1 {
-            let n = grow(r, a, b, x);
+    let mut i = 0;
+    while i < 16 {
+        if b[i] != 0 {
+            let n = grow(r, a, b[i], i);
             r = n;
         }
-        x += 1;
+        i += 1;
     }
     r
 }

@@ -1,39 +1,57 @@
--- `family::grow` meets its contract: of the sets of a whose low half is x, those of the words passed are done (`Growing`).
-use mathlib.Core.Path.{_≡_, sym, _∙_, subst}
+-- `family::grow` meets its contract: the words of a passed are done (`Growing`).
+use mathlib.Core.Path.{_≡_, subst}
 use mathlib.Core.Logic.{inl, inr}
-use Prim.Native.Nat.{ℕ, _-_, _≤_}
-use borrow.Author.Tests.{eqb-true, eqb-false}
-use Rattle.family.proofs.Products.{Growing, growing-none, growing-more, growing-skip, grown}
+use Prim.Native.Nat.{ℕ, _-_, _≤_, _<_}
+use lib.Bits.{bitOr, or-lt}
+use Rattle.family.proofs.Products.{Growing, growing-none, growing-skip, growing-more, grown}
 use borrow.Author.Needs.{needs}
 use native.Mathlib.Omega.{arith}
 use Rattle.family.proofs.grow.Statement.{statement}
 use Rattle.family.proofs.grow.Tie as tie
 
 abbrev Inv-loop : tie.InvT-loop
-Inv-loop a x m n₀ h₀ n h = (h ≤ 16) × Growing a x m n₀ h n
+Inv-loop w i a s n₀ h₀ n h = (h ≤ 16) × Growing a w i n₀ h n
 
 abbrev μ-loop : tie.MeasureT-loop
-μ-loop a x m n₀ h₀ n h = 16 - h
+μ-loop w i a s n₀ h₀ n h = 16 - h
 
-with-low-requires : tie.Need-with-low-requires Inv-loop μ-loop
-with-low-requires c κs = search needs
+below : (c : tie.Then1 Inv-loop μ-loop) → bitOr (c .before .before .loop .h) (c .before .before .before .before .args .i) < 16
+below c = or-lt 4 (c .before .before .loop .h) (c .before .before .before .before .args .i) (omega arith) (search needs)
+
+spreads-requires : tie.Need-spreads-requires Inv-loop μ-loop
+spreads-requires c κs = search needs
 
 loop-holds : tie.Need-loop-holds Inv-loop μ-loop
 loop-holds c =
-    let a = c .before .args in
-    (omega arith, growing-none (a .a) (a .x) (c .with-low .result) (a .r))
+    let s = c .before in
+    (omega arith, growing-none (s .args .t2) (s .args .w) (s .args .i) (s .args .r) (omega (arith, s .good .0)))
 
-mul-member : tie.Need-mul-member Inv-loop μ-loop
-mul-member c = search needs
+mul-if1 : tie.Need-mul-if1 Inv-loop μ-loop
+mul-if1 c = search needs
 
-add-member : tie.Need-add-member Inv-loop μ-loop
-add-member c = omega arith
+array-read-if1 : tie.Need-array-read-if1 Inv-loop μ-loop
+array-read-if1 c = search needs
 
-member-requires : tie.Need-member-requires Inv-loop μ-loop
-member-requires c κs = search needs
+mul-n : tie.Need-mul-n Inv-loop μ-loop
+mul-n c = omega (arith, below c)
 
-place-requires : tie.Need-place-requires Inv-loop μ-loop
-place-requires c κs = search needs
+array-read-n : tie.Need-array-read-n Inv-loop μ-loop
+array-read-n c = omega (arith, below c)
+
+mul-picked : tie.Need-mul-picked Inv-loop μ-loop
+mul-picked c = search needs
+
+array-read-picked : tie.Need-array-read-picked Inv-loop μ-loop
+array-read-picked c = search needs
+
+picked-requires : tie.Need-picked-requires Inv-loop μ-loop
+picked-requires c κs = search needs
+
+mul-n-2 : tie.Need-mul-n-2 Inv-loop μ-loop
+mul-n-2 c = omega (arith, below (c .before .before))
+
+array-write-n : tie.Need-array-write-n Inv-loop μ-loop
+array-write-n c = omega (arith, below (c .before .before))
 
 add-h : tie.Need-add-h Inv-loop μ-loop
 add-h c = omega arith
@@ -43,26 +61,23 @@ loop-less c = omega arith
 
 loop-again : tie.Need-loop-again Inv-loop μ-loop
 loop-again c =
-    let l = c .before .before .before .loop in
-    let m = c .before .before .before .before .with-low in
-    let a = c .before .before .before .before .before .args in
-    let e = c .before .member .ensures in (
+    let l = c .before .before .loop in
+    let t = c .before .before .before .spreads in
+    let a = c .before .before .before .before .args in (
       omega arith,
       elim (c .if1 .came) [
-        | inl w ↦ rw (w .2) (growing-more (a .a) (a .x) (m .result) (a .r) (l .h) (l .n) (l .inv .1) (w .1 .result) (eqb-true _ _ (sym e ∙ w .0 .taken)) (w .1 .ensures))
-        | inr w ↦ rw (w .1) (growing-skip (a .a) (a .x) (m .result) (a .r) (l .h) (l .n) (l .inv .1) (eqb-false _ _ (sym e ∙ w .0 .left)))
+        | inl w ↦ rw (w .3) (growing-more (a .t2) (a .w) (a .i) (a .r) (l .h) (l .n) (l .inv .1) (t .result) (w .2 .result) (omega arith) (search needs) (t .ensures) (w .2 .ensures))
+        | inr w ↦ rw (w .1) (growing-skip (a .t2) (a .w) (a .i) (a .r) (l .h) (l .n) (l .inv .1) (w .0 .left))
       ],
     )
 
 returns : tie.Need-returns Inv-loop μ-loop
 returns c =
     let l = c .before .loop in
-    let m = c .before .before .with-low in
     let s = c .before .before .before in
     let a = s .args in
     let e : l .h ≡ 16 = omega arith in
-    let g = subst (λ (h : ℕ). Growing (a .a) (a .x) (m .result) (a .r) h (l .n)) e (l .inv .1) in
-    grown (a .a) (a .b) (a .x) (m .result) (a .r) (l .n) (omega (arith, s .good .1 .0)) (search needs) (m .ensures) g
+    grown (a .t2) (a .w) (a .i) (a .r) (l .n) (omega (arith, s .good .1 .0)) (subst (λ (h : ℕ). Growing (a .t2) (a .w) (a .i) (a .r) h (l .n)) e (l .inv .1))
 
 pub grow-spec : {M : Type 1} → statement M
 grow-spec =
@@ -70,12 +85,17 @@ grow-spec =
     (tie.spec
     Inv-loop
     μ-loop
-    with-low-requires
+    spreads-requires
     loop-holds
-    mul-member
-    add-member
-    member-requires
-    place-requires
+    mul-if1
+    array-read-if1
+    mul-n
+    array-read-n
+    mul-picked
+    array-read-picked
+    picked-requires
+    mul-n-2
+    array-write-n
     add-h
     loop-less
     loop-again
