@@ -1,0 +1,5 @@
+pub mod Codes
+pub mod Leaves
+pub mod Sides
+pub mod Areas
+pub mod Exact

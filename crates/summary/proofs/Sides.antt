@@ -1,0 +1,74 @@
+-- A node's families: the right codes passed are gathered, the left codes passed are joined in; in the end all of them are, since a code
+-- above 6 has no sets.
+use mathlib.Core.Path.{_≡_}
+use mathlib.Core.Logic.{inl, inr}
+use mathlib.Core.List.{List}
+use Prim.Native.Nat.{ℕ, _+_, _<_}
+use native.Mathlib.Omega.{arith}
+use borrow.Author.Count.{below-more}
+use lib.Bits.{bitOr}
+use Rattle.family.specs.Family.{In, Empty, Joined, Product}
+use Rattle.family.proofs.Numbers.{below-or-above}
+use Rattle.outcomes.specs.Cells.{cell}
+use Rattle.summary.specs.declared.Summary.{Summary}
+use Rattle.summary.specs.Summary.{familyOf}
+use Rattle.summary.specs.Node.{FromCell, Under, FromRight, Gathered}
+use Rattle.summary.proofs.Codes.{beyond}
+
+-- the right codes below n
+pub record Gathering (form left code : ℕ) (b : Summary) (n : ℕ) (g : List ℕ) : Type 0 where
+  pub sound : (t : ℕ) → In g t → FromRight form left code b t
+  pub complete : (right : ℕ) → right < n → cell form left right ≡ code → (t : ℕ) → In (familyOf b right) t → In g t
+
+module _ (form left code : ℕ) (b : Summary) where
+  pub gathering-none : (g : List ℕ) → Empty g → Gathering form left code b 0 g
+  gathering-none g none = record { sound = λ t on. absurd (none t on); complete = λ right l. absurd (omega arith) }
+
+  module _ (n : ℕ) (g : List ℕ) (p : Gathering form left code b n g) where
+    pub gathering-more : (j : List ℕ) → cell form left n ≡ code → Joined g (familyOf b n) j → Gathering form left code b (n + 1) j
+    gathering-more j e joined = record {
+      sound = λ t on. elim (joined .sound t on) [ inl old ↦ p .sound t old | inr new ↦ record { right = n; is-cell = e; has = new } ];
+      complete = below-more (λ right. cell form left right ≡ code → (t : ℕ) → In (familyOf b right) t → In j t) n (λ right l c t on. joined .left t (p .complete right l c t on)) (λ c. joined .right);
+    }
+
+    pub gathering-skip : ¬ (cell form left n ≡ code) → Gathering form left code b (n + 1) g
+    gathering-skip d = record {
+      sound = p .sound;
+      complete = below-more (λ right. cell form left right ≡ code → (t : ℕ) → In (familyOf b right) t → In g t) n (p .complete) (λ c. absurd (d c));
+    }
+
+  pub gathered : (g : List ℕ) → Gathering form left code b 7 g → Gathered form left code b g
+  gathered g p = record {
+    sound = p .sound;
+    complete = λ right t c on. elim (below-or-above right 7) [ inl l ↦ p .complete right l c t on | inr l ↦ absurd (beyond b right l t on) ];
+  }
+
+-- the left codes below n
+pub record Joining (form code : ℕ) (a b : Summary) (n : ℕ) (u : List ℕ) : Type 0 where
+  pub sound : (t : ℕ) → In u t → FromCell form a b code t
+  pub complete : (left : ℕ) → left < n → (right x y : ℕ) → cell form left right ≡ code → In (familyOf a left) x → In (familyOf b right) y → In u (bitOr x y)
+
+module _ (form code : ℕ) (a b : Summary) where
+  pub joining-none : (u : List ℕ) → Empty u → Joining form code a b 0 u
+  joining-none u none = record { sound = λ t on. absurd (none t on); complete = λ left l. absurd (omega arith) }
+
+  module _ (n : ℕ) (u g p j : List ℕ) (q : Joining form code a b n u) (right-sets : Gathered form n code b g) (unions : Product (familyOf a n) g p) (joined : Joined u p j) where
+    from-product : (t : ℕ) → In p t → FromCell form a b code t
+    from-product t on =
+        let v = unions .sound t on in
+        let r = right-sets .sound (v .y) (v .in-right) in
+        record { left = n; right = r .right; is-cell = r .is-cell; union = record { x = v .x; y = v .y; in-left = v .in-left; in-right = r .has; is = v .is } }
+
+    pub joining-more : Joining form code a b (n + 1) j
+    joining-more = record {
+      sound = λ t on. elim (joined .sound t on) [ inl old ↦ q .sound t old | inr new ↦ from-product t new ];
+      complete = below-more (λ left. (right x y : ℕ) → cell form left right ≡ code → In (familyOf a left) x → In (familyOf b right) y → In j (bitOr x y)) n
+          (λ left l right x y c i k. joined .left (bitOr x y) (q .complete left l right x y c i k))
+          (λ right x y c i k. joined .right (bitOr x y) (unions .complete x y i (right-sets .complete right y c k)));
+    }
+
+  pub joined-all : (u : List ℕ) → Joining form code a b 7 u → Under form code a b u
+  joined-all u q = record {
+    sound = q .sound;
+    complete = λ left right x y c i k. elim (below-or-above left 7) [ inl l ↦ q .complete left l right x y c i k | inr l ↦ absurd (beyond a left l x i) ];
+  }

@@ -1,0 +1,4 @@
+pub mod Summary
+pub mod Node
+pub mod Area
+pub mod Exact

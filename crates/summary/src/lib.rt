@@ -1,0 +1,114 @@
+// A node's summary: for each of the codes 1 to 6 the family of the action sets that the outcome chart gives it. The summary of a leaf, of
+// a node from those of its two sides; and summaries in a lent area.
+ghost use mathlib.Core.Path.{_≡_};
+ghost use Prim.Native.Nat.{_<_};
+ghost use Rattle.summary.specs.Summary.{familyOf, Only, LeafSummary};
+ghost use Rattle.summary.specs.Node.{Gathered, Under, NodeSummary};
+
+pub mod area;
+
+// The families of the codes 1 to 6. Code 0, not run, has the empty set alone.
+pub struct Summary {
+    pub s1: [u64; 16],
+    pub s2: [u64; 16],
+    pub s3: [u64; 16],
+    pub s4: [u64; 16],
+    pub s5: [u64; 16],
+    pub s6: [u64; 16],
+}
+
+// The family of a code.
+fn family_of(s: Summary, code: u8) -> [u64; 16]
+    requires { ⌜ code < 7 ⌝ }
+    ensures { λ r. ⌜ r ≡ familyOf s code ⌝ }
+{
+    let mut f = s.s6;
+    match code {
+        0 => {
+            f = [0u64; 16];
+            f[0] = 1;
+        }
+        1 => f = s.s1,
+        2 => f = s.s2,
+        3 => f = s.s3,
+        4 => f = s.s4,
+        5 => f = s.s5,
+        _ => {}
+    }
+    f
+}
+
+// The set alone where it may be so, and else no set.
+fn only(set: usize, may: bool) -> [u64; 16]
+    ensures { λ r. ⌜ Only set may r ⌝ }
+{
+    if may {
+        return family::single(set);
+    }
+    family::empty()
+}
+
+// A leaf's summary: where it may finish, codes 1 and 2 with its set alone; where it may fail, codes 4 and 5 with the empty set.
+pub fn leaf(set: usize, finishes: bool, fails: bool) -> Summary
+    ensures { λ r. ⌜ LeafSummary set finishes fails r ⌝ }
+{
+    let finished = only(set, finishes);
+    let failed = only(0, fails);
+    let none = family::empty();
+    Summary {
+        s1: finished,
+        s2: finished,
+        s3: none,
+        s4: failed,
+        s5: failed,
+        s6: none,
+    }
+}
+
+// The sets of the right side under the right codes that give this code beside this left code.
+fn gather(form: u8, left: u8, code: u8, b: Summary) -> [u64; 16]
+    ensures { λ r. ⌜ Gathered form left code b r ⌝ }
+{
+    let mut g = family::empty();
+    let mut right = 0u8;
+    while right < 7 {
+        if outcomes::chart::cell(form, left, right) == code {
+            let f = family_of(b, right);
+            let j = family::join(g, f);
+            g = j;
+        }
+        right += 1;
+    }
+    g
+}
+
+// The sets of a node under a code.
+fn under(form: u8, code: u8, a: Summary, b: Summary) -> [u64; 16]
+    ensures { λ r. ⌜ Under form code a b r ⌝ }
+{
+    let mut u = family::empty();
+    let mut left = 0u8;
+    while left < 7 {
+        let x = family_of(a, left);
+        let y = gather(form, left, code, b);
+        let p = family::product(x, y);
+        let j = family::join(u, p);
+        u = j;
+        left += 1;
+    }
+    u
+}
+
+// A node's summary, from its form and the summaries of its sides.
+pub fn node(form: u8, a: Summary, b: Summary) -> Summary
+    ensures { λ r. ⌜ NodeSummary form a b r ⌝ }
+{
+    Summary {
+        s1: under(form, 1, a, b),
+        s2: under(form, 2, a, b),
+        s3: under(form, 3, a, b),
+        s4: under(form, 4, a, b),
+        s5: under(form, 5, a, b),
+        s6: under(form, 6, a, b),
+    }
+}
