@@ -1,7 +1,8 @@
 #!/usr/bin/env python3
 """Writes the vectors of the program `compare` anew: tests/make_vectors.py MODEL
 
-MODEL is the folder of the model (plans.py says which). Written: crates/compare/data/files, crates/compare/stdout, crates/inspect/stdin.
+MODEL is the folder of the model (plans.py and sessions.py say which). Written: crates/compare/data/files and runs, crates/compare/stdout,
+crates/inspect/stdin, and the session of the program `run`, crates/run/data/plan, stdin and stdout.
 docs/VECTORS.md has the format. The numbers expected are the model's. Where document 01 names one, the script ends if the model has another.
 Nothing but the seeds below decides what is made, so that a second run writes the same bytes.
 """
@@ -11,9 +12,13 @@ import random
 import sys
 
 from plans import block, blocks_of, damaged, model_in, number_of, random_plan
+from sessions import Model, cells_in, permitted, random_entries, session_of
 
 SEED_PLANS, PLANS = 20071, 300
 SEED_DAMAGED, DAMAGED = 20072, 1000
+SEED_FEW, FEW = 20073, 220
+SEED_MANY, MANY = 20074, 120
+SEED_MADE_UP, MADE_UP = 20075, 30
 # the rooms that the program has for a name and for a body
 NAME_ROOM, BODY_ROOM = 64, 66000
 
@@ -293,6 +298,150 @@ def two_faults():
             yield f'faults: {say(*first)}, {say(*second)}', NUMBER.get(first[1], first[1]), with_faults([first, second])
 
 
+def session_of_document():
+    """P1, and lines that meet each kind of answer: entries, entries refused, and no entries; the last has no newline"""
+    lines = ['3 1', '0 1', '0 1', 'finished', '', '3  2', '3 2 ', '+3 2', '03 2', '3 02', '3 256', '3', '3 2 1', '200 1', '2 1', '3 0', '3 3',
+             '3 2', '1 2', '1 1', '1 1']
+    return '\n'.join(lines).encode()
+
+
+def long_plans():
+    """plans of 63 nodes, made by hand: name, file"""
+    action = lambda a: [(0, a, 0)]
+    undone = over(COMPENSATION, action(0), action(1))
+    for form in (SEQUENCE, PARALLEL, CHOICE, COMPENSATION, HANDLER):
+        nodes = action(2)
+        for _ in range(31):
+            nodes = over(form, nodes, action(2))
+        yield f'32 actions of form {form}, the left the longer', nodes
+        if form != COMPENSATION:
+            nodes = action(2)
+            for _ in range(31):
+                nodes = over(form, action(2), nodes)
+            yield f'32 actions of form {form}, the right the longer', nodes
+    for form in (SEQUENCE, PARALLEL):
+        nodes = undone
+        for _ in range(14):
+            nodes = over(form, nodes, undone)
+        yield f'15 undone actions of form {form}, then a throw, handled', over(HANDLER, over(SEQUENCE, nodes, [THROW]), action(2))
+        yield f'15 undone actions of form {form}, then two actions', over(SEQUENCE, over(SEQUENCE, nodes, action(2)), action(2))
+
+
+def answer_of(told, number=0):
+    """what a vector holds of an answer: its number where it is a refusal, and else 0, the leaves that may come, the end"""
+    if told is None:
+        return bytes([number]) + bytes(9)
+    return bytes([0]) + sum(1 << n for n in told[0]).to_bytes(8, 'little') + bytes([(None, 'ok', 'fail').index(told[1])])
+
+
+def step_of(entry, told):
+    return bytes(entry) + answer_of(told, 11)
+
+
+def session_body(rng, cells, file, most):
+    """a plan file, what the start tells, and entries with what is told to each"""
+    model = Model(cells, file)
+    start = answer_of(model.told)
+    steps = b''.join(step_of(entry, told) for entry, told in random_entries(rng, model, most))
+    return bytes([0]) + len(file).to_bytes(2, 'little') + file + start + steps
+
+
+def runs_vectors(cells):
+    """name, body: sessions with small and large plans, and jobs that are made up"""
+    for name, file in plans_of_document():
+        rng = random.Random(name)
+        for n in range(6):
+            yield f'{name}, session {n}', session_body(rng, cells, file, 30)
+    for name, file in (('P1 without its rule', P1[:-9]), ('an empty file', b''), ('two skips', whole(nodes=[SKIP, SKIP]))):
+        yield f'{name} at the start', bytes([0]) + len(file).to_bytes(2, 'little') + file + answer_of(None, number_of(cells, file))
+    rng = random.Random(SEED_FEW)
+    for n in range(FEW):
+        yield f'plan {n} of few leaves, seed {SEED_FEW}', session_body(rng, cells, random_plan(cells, rng, rng.randrange(1, 7)), 20)
+    rng = random.Random(SEED_MANY)
+    for name, nodes in long_plans():
+        types = [3, 3, 3]
+        for n in range(3):
+            yield f'{name}, session {n}', session_body(rng, cells, whole(types, (), nodes), 60)
+    for n in range(MANY):
+        leaves = rng.choice([8, 13, 21, 32, 32, 32])
+        yield f'plan {n} of {leaves} leaves, seed {SEED_MANY}', session_body(rng, cells, random_plan(cells, rng, leaves), 60)
+    rng = random.Random(SEED_MADE_UP)
+    for n in range(MADE_UP):
+        yield from made_up(rng, cells, n)
+
+
+def made_up(rng, cells, n):
+    """a real job with entries taken, and each thing that makes it a false one; what is told to it is the model's: name, body"""
+    while True:
+        file = random_plan(cells, rng, rng.choice([2, 3, 4, 6, 8, 32]))
+        model = Model(cells, file)
+        for _ in range(rng.randrange(1, 8)):
+            good = permitted(model)
+            if good:
+                model.take(rng.choice(good))
+        if model.record and permitted(model):
+            break
+    entry, record = rng.choice(permitted(model)), model.record
+    flat_record = flat(record)
+
+    def job(kind, file=file, entries=flat_record, length=len(file), taken=len(record), at_file=None, at_record=None):
+        """the job's bytes, and one step: the entry"""
+        room, rest = bytearray(bytes(file).ljust(360, b'\0')), bytearray(bytes(entries).ljust(126, b'\0'))
+        if at_file is not None:
+            room[at_file] = rng.randrange(1, 256)
+        if at_record is not None:
+            rest[at_record] = rng.randrange(1, 256)
+        told = told_by_job(cells, bytes(room), length, bytes(rest), taken, entry)
+        if kind == 'as it is' and told is None or kind != 'as it is' and told is not None:
+            sys.exit(f'job {n}, {kind}: the model has {told}')
+        body = bytes([1]) + room + length.to_bytes(8, 'little') + rest + taken.to_bytes(8, 'little')
+        return f'job {n} of seed {SEED_MADE_UP}, {kind}', body + step_of(entry, told) + step_of((entry[0], 0), None)
+
+    yield job('as it is')
+    for length in (0, len(file) - 1, 361, 2 ** 32 + len(file), 2 ** 64 - 1):
+        yield job(f'plan length {length}', length=length)
+    if len(file) < 360:
+        yield job('plan length one more', length=len(file) + 1)
+        yield job('a byte past the plan', at_file=len(file))
+        yield job('the last byte past the plan', at_file=359)
+    for taken in (len(record) - 1, len(record) + 1, 63, 64, 2 ** 63 + len(record), 2 ** 64 - 1):
+        yield job(f'{taken} entries', taken=taken)
+    yield job('a byte past the record', at_record=len(flat_record))
+    yield job('the last byte past the record', at_record=125)
+    yield job('a plan with a type 4', file=file[:4] + b'\x04' + file[5:])
+    yield job('a plan without its rule', file=file[:-1] + b'\x80' if file[-5:-1] == bytes([1, 0, 4, 0]) else file[:-1] + b'\xff')
+    yield job('an entry twice', entries=flat_record + flat_record[:2], taken=len(record) + 1)
+    yield job('an outcome 0', entries=flat_record[:-1] + b'\0')
+    yield job('an outcome 3', entries=flat_record[:-1] + b'\x03')
+    yield job('a record of the whole process', entries=bytes([model.count - 1 if model.count > 1 else 5]) + flat_record[1:])
+    yield job('a record of no node', entries=bytes([model.count]) + flat_record[1:])
+
+
+def told_by_job(cells, file, length, record, taken, entry):
+    """what is told to an entry by a value of the type Job, or None where it is refused: a job is real where a start and entries give it"""
+    if length > 360 or taken > 63 or any(file[length:]) or any(record[2 * taken:]) or number_of(cells, file[:length]):
+        return None
+    model = Model(cells, file[:length])
+    for k in range(taken):
+        if model.take((record[2 * k], record[2 * k + 1])) is None:
+            return None
+    return model.take(entry)
+
+
+def data_of(vectors):
+    """the data file of a group: name and body of each vector"""
+    out = len(vectors).to_bytes(4, 'little')
+    for name, body in vectors:
+        text = name.encode('ascii')
+        if len(text) > NAME_ROOM or len(body) > BODY_ROOM:
+            sys.exit(f'{name}: no room for {len(text)} bytes of name and {len(body)} of body')
+        out += len(text).to_bytes(4, 'little') + len(body).to_bytes(4, 'little') + text + body
+    names = [name for name, _ in vectors]
+    if len(set(names)) != len(names):
+        sys.exit(f'a name that two vectors have: {next(n for n in names if names.count(n) > 1)}')
+    return out
+
+
 def main():
     if len(sys.argv) != 2:
         sys.exit(__doc__)
@@ -325,25 +474,27 @@ def main():
             file = damaged(rng, file)
         add(f'damaged plan {n} of seed {SEED_DAMAGED}', file)
 
-    out = len(vectors).to_bytes(4, 'little')
-    for name, number, file in vectors:
-        text, body = name.encode('ascii'), bytes([number]) + file
-        if len(text) > NAME_ROOM or len(body) > BODY_ROOM:
-            sys.exit(f'{name}: no room for {len(text)} bytes of name and {len(body)} of body')
-        out += len(text).to_bytes(4, 'little') + len(body).to_bytes(4, 'little') + text + body
-    names = [name for name, _, _ in vectors]
-    if len(set(names)) != len(names):
-        sys.exit(f'a name that two vectors have: {next(n for n in names if names.count(n) > 1)}')
-
     def write(path, data):
         with open(os.path.join(root, path), 'wb') as file:
             file.write(data)
 
-    write('crates/compare/data/files', out)
-    write('crates/compare/stdout', f'files: {len(vectors)} vectors, {len(vectors)} agree\n'.encode())
+    files = data_of([(name, bytes([number]) + file) for name, number, file in vectors])
+    cells = cells_in(sys.argv[1])
+    runs = list(runs_vectors(cells))
+    write('crates/compare/data/files', files)
+    write('crates/compare/data/runs', data_of(runs))
+    counts = ''.join(f'{group}: {n} vectors, {n} agree\n' for group, n in (('files', len(vectors)), ('runs', len(runs))))
+    write('crates/compare/stdout', counts.encode())
     write('crates/inspect/stdin', P1)
+    write('crates/run/data/plan', P1)
+    write('crates/run/stdin', session_of_document())
+    write('crates/run/stdout', session_of(cells, P1, session_of_document()).encode())
     counts = {number: sum(n == number for _, n, _ in vectors) for number in range(10)}
-    print(f'files: {len(vectors)} vectors, {len(out)} bytes; of each number:', ', '.join(f'{k}: {v}' for k, v in counts.items()))
+    print(f'files: {len(vectors)} vectors, {len(files)} bytes; of each number:', ', '.join(f'{k}: {v}' for k, v in counts.items()))
+    steps = [body[at:at + 12] for _, body in runs if body[0] == 0 for at in range(13 + int.from_bytes(body[1:3], 'little'), len(body), 12)]
+    taken = sum(step[2] == 0 for step in steps)
+    jobs = sum(body[0] == 1 for _, body in runs)
+    print(f'runs: {len(runs) - jobs} sessions, {len(steps)} entries offered, {taken} of them taken; {jobs} jobs, {MADE_UP} of them real')
 
 
 main()

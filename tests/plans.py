@@ -57,11 +57,11 @@ def in_another_order(rng, nodes):
     return [(f, place[l], place[r]) if f >= 3 else (f, l, r) for f, l, r in (nodes[i] for i in out + [len(nodes) - 1])]
 
 
-def random_plan(model, rng):
+def random_plan(model, rng, leaves=None):
     """the file of a plan of 1 to 10 actions and 1 to 32 leaves, a third of them with their nodes in an order other than the model's"""
     actions = rng.randrange(1, 11)
     types = [rng.choice([1, 2, 3]) for _ in range(actions)]
-    nodes = model.nodes_of(model.rand_tree(rng, rng.choice([1, 2, 3, 5, 8, 13, 21, 32]), actions))
+    nodes = model.nodes_of(model.rand_tree(rng, leaves or rng.choice([1, 2, 3, 5, 8, 13, 21, 32]), actions))
     nodes = in_another_order(rng, nodes) if rng.randrange(3) == 0 else nodes
     rule = model.rand_rule(rng, actions, rng.randrange(0, 7))
     return model.encode(types, model.rand_pairs(rng, actions), nodes, rule)

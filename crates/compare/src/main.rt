@@ -7,6 +7,7 @@
 mod data;
 mod files;
 mod lines;
+mod runs;
 mod tally;
 
 ghost use Prim.Native.Nat.{_≤_};
@@ -20,11 +21,13 @@ const BODY_ROOM: usize = 66000;
 
 pub enum Group {
     Files,
+    Runs,
 }
 
 fn compare(group: Group, body: &[u8]) -> Outcome {
     match group {
         Group::Files => files::compare(body),
+        Group::Runs => runs::compare(body),
     }
 }
 
@@ -86,4 +89,5 @@ fn run(group: Group, title: &[u8]) {
 
 fn main() {
     run(Group::Files, b"files");
+    run(Group::Runs, b"runs");
 }

@@ -2,6 +2,7 @@
 ghost use mathlib.Core.Path.{_≡_};
 ghost use Prim.Native.Nat.{_+_, _≤_};
 ghost use lib.ListN.{length};
+ghost use Rattle.io.specs.Counts.{Counts};
 ghost use Rattle.input.specs.Answer.{answerOf, Gives};
 
 // What reading gave: how many bytes stand at the start of the buffer, and whether a read failed after them
@@ -23,9 +24,10 @@ fn answered(got: isize, buf: &[u8]) -> Filled
     }
 }
 
-// One read.
-fn read_some(fd: i32, buf: &mut [u8]) -> Filled
+// One read: it gives what has come, as soon as anything has, and nothing where the input has ended.
+pub fn read_some(fd: i32, buf: &mut [u8]) -> Filled
     ensures { λ r. ⌜ r .count ≤ length (now (buf .entry)) ⌝ }
+    ensures { λ r. ⌜ Counts (r .count) (now (buf .exit)) ⌝ }
 {
     let got = libc::read(fd, buf);
     answered(got, buf)

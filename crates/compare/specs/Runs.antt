@@ -1,0 +1,28 @@
+-- The numbers that stand for a runner's answer in a vector of the group `runs`.
+-- A refusal has its own number and no leaves; what is told has the number 0.
+use Prim.Native.Nat.{ℕ}
+use Rattle.job.specs.declared.Status.the-variants.{Succeeded, Failed}
+use Rattle.job.specs.declared.End.{End}
+use Rattle.job.specs.declared.End.the-variants.{Open, MayEnd}
+use Rattle.job.specs.declared.Answer.{Answer}
+use Rattle.job.specs.declared.Answer.the-variants.{Told, Refused}
+
+-- the number of a refusal
+abbrev pub numberIn : Answer → ℕ
+numberIn (Told t) = 0
+numberIn (Refused n) = n
+
+-- the leaves that may come next, bit n for leaf n
+abbrev pub nextIn : Answer → ℕ
+nextIn (Told t) = t .next
+nextIn (Refused n) = 0
+
+-- whether the run may end, and how: 0 open, 1 succeeded, 2 failed
+abbrev pub endNumber : End → ℕ
+endNumber Open = 0
+endNumber (MayEnd Succeeded) = 1
+endNumber (MayEnd Failed) = 2
+
+abbrev pub endIn : Answer → ℕ
+endIn (Told t) = endNumber (t .end)
+endIn (Refused n) = 0

@@ -1,0 +1,47 @@
+-- What is said to the bytes of the input, one after the other: a newline ends a line, and each line is answered once, in its turn.
+-- The answer to an entry is the runner's own, and the job that it hands back goes on.
+use mathlib.Core.Bool.{cond}
+use mathlib.Core.List.{List, [], _∷_}
+use Prim.Native.Nat.{ℕ}
+use lib.Dec.{eqb}
+use Rattle.job.specs.Job.{takeOf}
+use Rattle.job.specs.declared.Entry.{Entry}
+use Rattle.job.specs.declared.Job.{Job}
+use Rattle.run.specs.Line.{freshLine, lineAfter, begun, entryIn}
+use Rattle.run.specs.declared.line.Found.{Found}
+use Rattle.run.specs.declared.line.Found.the-variants as found
+use Rattle.run.specs.declared.session.Session.{Session}
+use Rattle.run.specs.declared.session.Say.the-variants.{Nothing, NotAnEntry, Answer}
+use Rattle.run.specs.declared.session.Heard.{Heard}
+
+-- The session at the start of a line.
+abbrev pub nextLine : Job → Session
+nextLine j = record { job = j; line = freshLine }
+
+abbrev pub silent : Session → Heard
+silent s = record { say = Nothing; session = s }
+
+-- An entry goes to the job.
+abbrev pub heardEntry : Job → Entry → Heard
+heardEntry j e = record { say = Answer (takeOf j e .answer); session = nextLine (takeOf j e .job) }
+
+abbrev pub answeredTo : Job → Found → Heard
+answeredTo j (found.Entry e) = heardEntry j e
+answeredTo j found.NotAnEntry = record { say = NotAnEntry; session = nextLine j }
+
+-- The line that has come is whole.
+abbrev pub answered : Session → Heard
+answered s = answeredTo (s .job) (entryIn (s .line))
+
+-- One byte of input: a newline is 10.
+abbrev pub heardByte : Session → ℕ → Heard
+heardByte s b = cond (eqb b 10) (answered s) (silent (record { job = s .job; line = lineAfter (s .line) b }))
+
+-- The session after some bytes of input.
+unfoldable pub heardAll : Session → List ℕ → Session
+heardAll s [] = s
+heardAll s (b ∷ bs) = heardAll (heardByte s b .session) bs
+
+-- The end of the input: it ends a line of which a byte has come.
+abbrev pub heardEnd : Session → Heard
+heardEnd s = cond (begun (s .line)) (answered s) (silent s)

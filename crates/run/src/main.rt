@@ -1,0 +1,147 @@
+// Runs a job by hand: run PLAN, where PLAN is the path of a plan file. Entries come on standard input, a line each.
+//
+// After the start and after each entry taken it writes a line `next` with the leaves that may come, ascending, each after a blank, and a line
+// `open`, `may end succeeded` or `may end failed`. An entry that is refused gets `refused` and its number, and the session goes on. A plan that is
+// refused gets `refused` and its number, and the program ends. Each line of input is answered as soon as it is there.
+//
+// A line is an entry where it is leaf and outcome in decimal with one blank between them and nothing else: `0 2`. Each number is 0 to 255 in the
+// digits 0 to 9, with no sign and no zero before another digit. So a line that is an entry has at most seven bytes, but a line may have any length.
+// A line that is no entry, an empty one too, gets `not an entry`, and the session goes on. A newline ends a line, and so does the end of the input
+// where bytes of a line have come before it.
+mod line;
+mod lines;
+mod session;
+
+ghost use mathlib.Core.Bool.{true};
+ghost use mathlib.Core.Path.{_≡_};
+ghost use Rattle.run.specs.Session.{heardAll};
+use job::Answer;
+use job::Job;
+use libc::STDERR_FILENO;
+use libc::STDIN_FILENO;
+use session::Heard;
+use session::Session;
+
+// The session after some input, and whether it goes on.
+pub struct Turn {
+    pub session: Session,
+    pub goes_on: bool,
+}
+
+// Says what is to be said.
+fn spoken(heard: Heard) -> Turn
+    ensures { λ r. ⌜ r .session ≡ heard .session ⌝ }
+{
+    let say = heard.say;
+    let session = heard.session;
+    let goes_on = lines::say(say);
+    if !goes_on {
+        os::fail(b"standard output");
+    }
+    Turn { session, goes_on }
+}
+
+// Hears the bytes of one read, and answers each line that they end. Where the session goes on, each of them has been heard.
+fn piece(session: Session, bytes: &[u8]) -> Turn
+    ensures { λ r. ⌜ (r .«goes_on» ≡ true → r .session ≡ heardAll session (now (bytes .entry))) ⌝ }
+{
+    let mut turn = Turn {
+        session,
+        goes_on: true,
+    };
+    let mut i = 0;
+    while i < bytes.len() && turn.goes_on {
+        let s = turn.session;
+        turn = spoken(session::hear(s, bytes[i]));
+        i += 1;
+    }
+    turn
+}
+
+fn end(session: Session) -> Turn {
+    Turn {
+        session,
+        goes_on: false,
+    }
+}
+
+// Reads once and answers what came.
+fn round(session: Session) -> Turn {
+    let mut buf = [0u8; 4096];
+    let got = input::read_some(STDIN_FILENO, &mut buf);
+    if got.failed {
+        os::fail(b"standard input");
+        return end(session);
+    }
+    let n = got.count;
+    if n == 0 {
+        let last = spoken(session::hear_end(session));
+        let s = last.session;
+        return end(s);
+    }
+    piece(session, &buf[..n])
+}
+
+// A proved loop ends, and nothing says that the input does: the turns are counted down from a number that no session meets.
+fn talk(session: Session) {
+    let mut turn = Turn {
+        session,
+        goes_on: true,
+    };
+    let mut turns = u64::MAX;
+    while turns > 0 && turn.goes_on {
+        let s = turn.session;
+        turn = round(s);
+        turns -= 1;
+    }
+}
+
+// Starts the job, tells what the start tells, and goes on with the entries unless the plan is refused.
+fn start(file: &[u8]) {
+    let taken = Job::start(file);
+    let answer = taken.answer;
+    let job = taken.job;
+    if !lines::answer(answer) {
+        os::fail(b"standard output");
+        return;
+    }
+    match answer {
+        Answer::Told(_) => talk(session::next_line(job)),
+        Answer::Refused(_) => (),
+    }
+}
+
+// The largest plan file has 360 bytes, and a longer one is refused by the same number as its first 361 bytes.
+fn open(path: &[u8]) {
+    let fd = os::open_read(path);
+    if fd < 0 {
+        os::fail(path);
+        return;
+    }
+    let mut file = [0u8; 361];
+    let got = input::fill(fd, &mut file);
+    if got.failed {
+        os::fail(path);
+        return;
+    }
+    libc::close(fd);
+    let n = got.count;
+    start(&file[..n]);
+}
+
+fn main() {
+    if os::arg_count() != 2 {
+        io::write_all(
+            STDERR_FILENO,
+            b"run: one argument is due, the path of a plan file\n",
+        );
+        return;
+    }
+    let mut path = io::buffer();
+    let n = os::arg(1, &mut path);
+    if os::errno() != 0 {
+        os::fail(b"the path of the plan file");
+        return;
+    }
+    open(&path[..n]);
+}
