@@ -13,9 +13,9 @@ use crate::tally::Outcome;
 use crate::tally::held;
 use job::Answer;
 use job::End;
-use job::Entry;
 use job::Job;
 use job::Status;
+use state::Entry;
 
 // The bytes of an answer, of a step, and of a job.
 const ANSWER: usize = 10;

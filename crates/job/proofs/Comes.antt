@@ -19,7 +19,7 @@ use Rattle.runs.specs.Beginnings.{Begins, Beginnings}
 use Rattle.runs.specs.Cells.{toldNext}
 use Rattle.runs.specs.declared.cells.Told.{Told}
 use Rattle.runs.proofs.Beginnings.{beginnings}
-use Rattle.job.specs.State.{toldBy, leafType, typePermits, isNext, leafPermits, mayCome}
+use Rattle.state.specs.State.{toldBy, leafType, typePermits, isNext, leafPermits, mayCome}
 use Rattle.job.specs.Offer.{statusNumber}
 use Rattle.job.proofs.Outcomes.{Stands, told-of}
 

@@ -12,9 +12,9 @@ use lib.ListN.{length, getD, set, length-set}
 use lib.Seq.{getD-set-same, getD-set-other}
 use borrow.Author.Tests.{ltb-true, ltb-false, lt-ltb, le-ltb, eqb-true, eq-eqb}
 use Rattle.blocks.proofs.Bounded.{decide, every-at, every-all}
-use Rattle.job.specs.State.{entryAt, entriesFrom}
+use Rattle.state.specs.State.{entryAt, entriesFrom}
 use Rattle.job.specs.Job.{zerosFrom}
-use Rattle.job.specs.declared.Entry.{Entry}
+use Rattle.state.specs.declared.Entry.{Entry}
 
 -- a store past the k entries from entry i on leaves them
 kept : (r : List ℕ) (p v i k : ℕ) → 2 * (i + k) ≤ p → entriesFrom (set r p v) i k ≡ entriesFrom r i k

@@ -11,11 +11,11 @@ use Rattle.process.specs.Process as process
 use Rattle.plan.specs.PlanFile.{Runnable}
 use Rattle.plan.specs.Tree.{processOf}
 use Rattle.runs.specs.Beginnings.{Begins}
-use Rattle.job.specs.State.{mayCome, replay}
+use Rattle.state.specs.State.{mayCome, replay}
 use Rattle.job.specs.Offer.{statusNumber, statusOf, runEntry}
-use Rattle.job.specs.declared.Entry.{Entry}
-use Rattle.job.specs.declared.state.Replayed.{Replayed}
-use Rattle.job.proofs.May.{comes-small, comes-leaf}
+use Rattle.state.specs.declared.Entry.{Entry}
+use Rattle.state.specs.declared.Replayed.{Replayed}
+use Rattle.state.proofs.May.{comes-small, comes-leaf}
 use Rattle.job.proofs.Room.{Below, below-more}
 use Rattle.job.proofs.Outcomes.{Stands, stands-more}
 use Rattle.job.proofs.Comes.{comes}

@@ -21,13 +21,13 @@ use Rattle.plan.proofs.Demand1.{demand1, runnable}
 use Rattle.runs.specs.Cells.{Holds, ending, toldEnded, toldNext}
 use Rattle.runs.specs.declared.cells.Told as cells
 use Rattle.runs.proofs.Leaves.{holds-none}
-use Rattle.job.specs.State.{toldBy, mayCome, freshTable, replay, entryAt, entriesFrom, stateAfter}
+use Rattle.state.specs.State.{toldBy, mayCome, freshTable, replay, entryAt, entriesFrom, stateAfter}
 use Rattle.job.specs.Job.{saying, refusal, freshJob, planOf, zerosFrom, tidy, withEntry, isOpen, stalled, afterEntry, takeWith, takeOn, takeOf}
 use Rattle.job.specs.Offer.{runEntry, recordOf, Sized}
-use Rattle.job.specs.declared.Entry.{Entry}
+use Rattle.state.specs.declared.Entry.{Entry}
 use Rattle.job.specs.declared.Answer.the-variants as answer
 use Rattle.job.specs.declared.Job.{Job}
-use Rattle.job.specs.declared.state.Replayed.{Replayed}
+use Rattle.state.specs.declared.Replayed.{Replayed}
 use Rattle.job.proofs.Tidy.{Tidy, tidy-says}
 use Rattle.job.proofs.Areas.{padded-zeros, zeros-past}
 use Rattle.job.proofs.Outcomes.{zeros-at, stands-fresh, told-of}

@@ -21,7 +21,7 @@ use Rattle.runs.specs.TwoLevels.{toldTwo, cellsTwo}
 use Rattle.runs.specs.declared.cells.Ended.the-variants.{Open}
 use Rattle.runs.specs.declared.cells.Told.{Told}
 use Rattle.runs.proofs.TwoLevels.{two-levels}
-use Rattle.job.specs.State.{outcomeOf, leafCells, nodeCells, cellsAt, toldBy, freshTable}
+use Rattle.state.specs.State.{outcomeOf, leafCells, nodeCells, cellsAt, toldBy, freshTable}
 use Rattle.job.specs.Offer.{statusNumber}
 
 -- the outcomes that a table has

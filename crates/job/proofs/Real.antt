@@ -16,15 +16,15 @@ use Rattle.plan.specs.Reading.{bytesOf, readOf}
 use Rattle.plan.specs.declared.Layout.{Layout}
 use Rattle.plan.specs.declared.Reading.{Reading}
 use Rattle.plan.specs.declared.Reading.the-variants as reading
-use Rattle.job.specs.State.{mayCome, freshTable, replay, entryAt, entriesFrom, stateAfter}
+use Rattle.state.specs.State.{mayCome, freshTable, replay, entryAt, entriesFrom, stateAfter}
 use Rattle.job.specs.Job.{refusal, freshJob, planOf, zerosFrom, tidy, withEntry, takeWith, takeOn, takeOf}
 use Rattle.job.specs.Offer.{Standing, onAnswer, next, offer, started, recordOf, Real, Sized}
-use Rattle.job.specs.declared.Entry.{Entry}
+use Rattle.state.specs.declared.Entry.{Entry}
 use Rattle.job.specs.declared.Answer.{Answer}
 use Rattle.job.specs.declared.Answer.the-variants as answer
 use Rattle.job.specs.declared.Job.{Job}
 use Rattle.job.specs.declared.Taken.{Taken}
-use Rattle.job.specs.declared.state.Replayed.{Replayed}
+use Rattle.state.specs.declared.Replayed.{Replayed}
 use Rattle.job.proofs.Tidy.{Tidy, tidy-says}
 use Rattle.job.proofs.Areas.{zero-past, padded-back}
 use Rattle.job.proofs.Outcomes.{zeros-at}

@@ -16,11 +16,11 @@ use Rattle.runs.specs.Cells.{Holds, ending, toldEnded, toldNext}
 use Rattle.runs.specs.declared.cells.Ended.{Ended}
 use Rattle.runs.specs.declared.cells.Ended.the-variants as ended
 use Rattle.runs.specs.declared.cells.Told as cells
-use Rattle.job.specs.State.{toldBy, mayCome}
+use Rattle.state.specs.State.{toldBy, mayCome}
 use Rattle.job.specs.Job.{endOf, saying, refusal, withEntry, takeOf}
 use Rattle.job.specs.Offer.{Standing, onAnswer, next, offer, started, statusNumber, statusOf, runEntry, recordOf}
 use Rattle.job.specs.Demand2.{planProcess, saysEnd, Continues, Honest}
-use Rattle.job.specs.declared.Entry.{Entry}
+use Rattle.state.specs.declared.Entry.{Entry}
 use Rattle.job.specs.declared.End.{End}
 use Rattle.job.specs.declared.End.the-variants.{Open, MayEnd}
 use Rattle.job.specs.declared.Status.the-variants.{Succeeded, Failed}

@@ -14,7 +14,7 @@ use Rattle.plan.specs.declared.Reading.the-variants.{Accepted, Refused}
 use Rattle.runs.specs.Beginnings.{Begins}
 use Rattle.job.specs.Job.{refusal, noJob, startOf, takeOf}
 use Rattle.job.specs.Offer.{Standing, offer, started, statusNumber, runEntry, recordOf, Real, Sized}
-use Rattle.job.specs.declared.Entry.{Entry}
+use Rattle.state.specs.declared.Entry.{Entry}
 use Rattle.job.specs.declared.Status as told
 use Rattle.job.specs.declared.Status.the-variants.{Succeeded, Failed}
 use Rattle.job.specs.declared.End.the-variants.{MayEnd}

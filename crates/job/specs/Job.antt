@@ -13,8 +13,8 @@ use Rattle.plan.specs.declared.Reading.the-variants as reading
 use Rattle.runs.specs.declared.cells.Ended.{Ended}
 use Rattle.runs.specs.declared.cells.Ended.the-variants as ended
 use Rattle.runs.specs.declared.cells.Told as cells
-use Rattle.job.specs.State.{toldBy, mayCome, freshTable, stateAfter}
-use Rattle.job.specs.declared.Entry.{Entry}
+use Rattle.state.specs.State.{toldBy, mayCome, freshTable, stateAfter}
+use Rattle.state.specs.declared.Entry.{Entry}
 use Rattle.job.specs.declared.Status.the-variants.{Succeeded, Failed}
 use Rattle.job.specs.declared.End.{End}
 use Rattle.job.specs.declared.End.the-variants.{Open, MayEnd}

@@ -1,4 +1,3 @@
-pub mod State
 pub mod Job
 pub mod Offer
 pub mod Demand2

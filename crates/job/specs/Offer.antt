@@ -11,9 +11,9 @@ use Rattle.process.specs.Process as process
 use Rattle.plan.specs.Reading.{bytesOf, readOf}
 use Rattle.plan.specs.declared.Layout.{Layout}
 use Rattle.plan.specs.declared.Reading.the-variants.{Accepted}
-use Rattle.job.specs.State.{toldBy, freshTable, entriesFrom}
+use Rattle.state.specs.State.{toldBy, freshTable, entriesFrom}
 use Rattle.job.specs.Job.{saying, freshJob, takeOf}
-use Rattle.job.specs.declared.Entry.{Entry}
+use Rattle.state.specs.declared.Entry.{Entry}
 use Rattle.job.specs.declared.Told.{Told}
 use Rattle.job.specs.declared.Answer.{Answer}
 use Rattle.job.specs.declared.Answer.the-variants as answer

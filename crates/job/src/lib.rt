@@ -3,9 +3,7 @@ use blocks::Part;
 use plan::Layout;
 use plan::Reading;
 use runs::cells::Ended;
-
-mod state;
-
+use state::Entry;
 ghost use mathlib.Core.Path.{_≡_};
 ghost use Prim.Native.Nat.{_≤_, _<_};
 ghost use mathlib.Core.Bool.{true, cond};
@@ -14,12 +12,6 @@ ghost use lib.ListN.{length};
 ghost use Rattle.plan.specs.PlanFile.{Runnable};
 ghost use Rattle.plan.specs.Reading.{bytesOf, readOf, endOf as partEnd};
 ghost use Rattle.job.specs.Job.{endOf, saying, refusal, noJob, freshJob, startWith, startOf, zerosFrom, tidy, withEntry, isOpen, stalled, afterEntry, takeWith, takeOn, takeOf, planOf};
-
-// An entry of a run: the leaf's node number, then 1 (finished) or 2 (failed).
-pub struct Entry {
-    pub leaf: u8,
-    pub outcome: u8,
-}
 
 pub enum Status {
     Succeeded,

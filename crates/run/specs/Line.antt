@@ -4,7 +4,7 @@ use mathlib.Core.Bool.{Bool, true, false, cond}
 use mathlib.Core.List.{List, [], _∷_}
 use Prim.Native.Nat.{ℕ, _+_, _-_, _*_}
 use lib.Dec.{ltb, eqb}
-use Rattle.job.specs.declared.Entry.{Entry}
+use Rattle.state.specs.declared.Entry.{Entry}
 use Rattle.run.specs.declared.line.Number.{Number}
 use Rattle.run.specs.declared.line.Number.the-variants.{Unwritten, Is, Wrong}
 use Rattle.run.specs.declared.line.Line.{Line}

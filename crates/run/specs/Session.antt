@@ -5,7 +5,7 @@ use mathlib.Core.List.{List, [], _∷_}
 use Prim.Native.Nat.{ℕ}
 use lib.Dec.{eqb}
 use Rattle.job.specs.Job.{takeOf}
-use Rattle.job.specs.declared.Entry.{Entry}
+use Rattle.state.specs.declared.Entry.{Entry}
 use Rattle.job.specs.declared.Job.{Job}
 use Rattle.run.specs.Line.{freshLine, lineAfter, begun, entryIn}
 use Rattle.run.specs.declared.line.Found.{Found}

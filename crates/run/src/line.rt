@@ -1,7 +1,7 @@
 // A line of input, read byte by byte: `entry_of` answers the entry whose text the bytes so far are, if they are one's.
 ghost use mathlib.Core.Path.{_≡_};
 ghost use Rattle.run.specs.Line.{digitAfter, freshLine, lineAfter, begun, entryFrom, entryIn};
-use job::Entry;
+use state::Entry;
 
 // A number as far as its digits have come: `Wrong` where they are no byte's text.
 pub enum Number {

@@ -4,8 +4,8 @@ ghost use Rattle.run.specs.Session.{nextLine, silent, heardEntry, answer
 use crate::line::Found;
 use crate::line::Line;
 use job::Answer;
-use job::Entry;
 use job::Job;
+use state::Entry;
 
 pub struct Session {
     pub job: Job,

@@ -1,7 +1,7 @@
 -- `job::after_entry` meets its contract: each return by the test that led there.
 use mathlib.Core.Path.{_≡_, sym, _∙_}
 use lib.ListN.{set}
-use Rattle.job.specs.State.{toldBy}
+use Rattle.state.specs.State.{toldBy}
 use borrow.Author.Needs.{needs}
 use Rattle.job.proofs.after_entry.Statement.{statement}
 use Rattle.job.proofs.after_entry.Tie as tie

@@ -1,7 +1,7 @@
 -- `job::take_with` meets its contract: each return by the tests that led there.
 use mathlib.Core.Path.{sym, _∙_}
 use borrow.Author.Tests.{not-true, not-false}
-use Rattle.job.proofs.May.{comes-small}
+use Rattle.state.proofs.May.{comes-small}
 use borrow.Author.Needs.{needs}
 use Rattle.job.proofs.take_with.Statement.{statement}
 use Rattle.job.proofs.take_with.Tie as tie

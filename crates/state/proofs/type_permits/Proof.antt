@@ -1,7 +1,7 @@
--- `job::state::type_permits` meets its contract: each return by the tests that led there.
+-- `state::type_permits` meets its contract: each return by the tests that led there.
 use borrow.Author.Tests.{eq-eqb, ne-eqb}
-use Rattle.job.proofs.state.type_permits.Statement.{statement}
-use Rattle.job.proofs.state.type_permits.Tie as tie
+use Rattle.state.proofs.type_permits.Statement.{statement}
+use Rattle.state.proofs.type_permits.Tie as tie
 
 returns : tie.Need-returns
 returns c = simp (eq-eqb _ _ (c .if1 .taken))

@@ -1,7 +1,7 @@
--- `job::state::outcome_of` meets its contract: each return by the tests that led there.
+-- `state::outcome_of` meets its contract: each return by the tests that led there.
 use borrow.Author.Tests.{eq-eqb, ne-eqb}
-use Rattle.job.proofs.state.outcome_of.Statement.{statement}
-use Rattle.job.proofs.state.outcome_of.Tie as tie
+use Rattle.state.proofs.outcome_of.Statement.{statement}
+use Rattle.state.proofs.outcome_of.Tie as tie
 
 returns : tie.Need-returns
 returns c = simp (eq-eqb _ _ (c .if1 .taken))

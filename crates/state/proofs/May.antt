@@ -8,8 +8,8 @@ use borrow.Author.Tests.{ltb-true}
 use Rattle.blocks.proofs.Bounded.{both-true}
 use Rattle.plan.specs.Nodes.{count, form}
 use Rattle.plan.specs.PlanFile.{Runnable}
-use Rattle.job.proofs.Sides.{leaf-small}
-use Rattle.job.specs.State.{leafPermits, mayCome}
+use Rattle.state.proofs.Sides.{leaf-small}
+use Rattle.state.specs.State.{leafPermits, mayCome}
 
 pub permits-present : (types b : List ℕ) (n outcome : ℕ) → leafPermits types b n outcome ≡ true → n < count b
 unfolding leafPermits

@@ -12,8 +12,8 @@ use Rattle.runs.specs.declared.cells.Ended.{Ended}
 use Rattle.runs.specs.declared.cells.Ended.the-variants.{Open, Succeeded, Failed}
 use Rattle.runs.specs.declared.cells.Cells.{Cells}
 use Rattle.runs.specs.declared.cells.Told.{Told}
-use Rattle.job.specs.declared.Entry.{Entry}
-use Rattle.job.specs.declared.state.Replayed.{Replayed}
+use Rattle.state.specs.declared.Entry.{Entry}
+use Rattle.state.specs.declared.Replayed.{Replayed}
 
 abbrev pub outcomeOf : ℕ → Ended
 outcomeOf x = cond (eqb x 0) Open (cond (eqb x 1) Succeeded Failed)

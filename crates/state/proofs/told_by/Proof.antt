@@ -1,4 +1,4 @@
--- `job::state::told_by` meets its contract: the cells of the nodes passed are filled in, each part of a node before it.
+-- `state::told_by` meets its contract: the cells of the nodes passed are filled in, each part of a node before it.
 use mathlib.Core.Path.{_≡_, refl, ap, _∙_}
 use Prim.Native.Nat.{_-_, _/_, _<_}
 use native.Mathlib.Omega.{arith}
@@ -9,11 +9,11 @@ use borrow.Author.Needs.{needs}
 use Rattle.plan.specs.Nodes.{count, form, left, right}
 use Rattle.plan.proofs.Tree.{parts-smaller}
 use Rattle.runs.specs.TwoLevels.{leafTwo, nodeTwo, toldTwo}
-use Rattle.job.specs.State.{outcomeOf, toldBy}
-use Rattle.job.proofs.Filled.{blank, Filled, filled-none, filled-more}
-use Rattle.job.proofs.Sides.{left-small, right-small}
-use Rattle.job.proofs.state.told_by.Statement.{statement}
-use Rattle.job.proofs.state.told_by.Tie as tie
+use Rattle.state.specs.State.{outcomeOf, toldBy}
+use Rattle.state.proofs.Filled.{blank, Filled, filled-none, filled-more}
+use Rattle.state.proofs.Sides.{left-small, right-small}
+use Rattle.state.proofs.told_by.Statement.{statement}
+use Rattle.state.proofs.told_by.Tie as tie
 
 abbrev Inv-loop : tie.InvT-loop
 Inv-loop types nodes table n cells₀ i₀ cells i = (n ≡ count nodes) × Filled nodes table i cells

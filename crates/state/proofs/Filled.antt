@@ -13,7 +13,7 @@ use Rattle.runs.specs.TwoLevels.{leafTwo, nodeTwo}
 use Rattle.runs.specs.declared.cells.Ended.the-variants.{Open}
 use Rattle.runs.specs.declared.cells.Cell.{Cell}
 use Rattle.runs.specs.declared.cells.Cells.{Cells}
-use Rattle.job.specs.State.{outcomeOf, leafCells, nodeCells, cellsAt}
+use Rattle.state.specs.State.{outcomeOf, leafCells, nodeCells, cellsAt}
 
 -- what stands past the end of an array of cells
 abbrev pub blankCell : Cell

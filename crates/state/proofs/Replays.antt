@@ -5,8 +5,8 @@ use mathlib.Core.List.{List}
 use Prim.Native.Nat.{ℕ, suc, _+_, _-_, _*_, _≤_, _<_}
 use native.Mathlib.Omega.{arith}
 use lib.ListN.{getD, set}
-use Rattle.job.specs.State.{mayCome, freshTable, replay, entriesFrom, stateAfter}
-use Rattle.job.specs.declared.state.Replayed.{Replayed}
+use Rattle.state.specs.State.{mayCome, freshTable, replay, entriesFrom, stateAfter}
+use Rattle.state.specs.declared.Replayed.{Replayed}
 
 module _ (types b r : List ℕ) (taken : ℕ) where
   -- what is left of the record from entry i on

@@ -11,7 +11,13 @@ ghost use mathlib.Core.Bool.{cond};
 ghost use Rattle.runs.specs.TwoLevels.{leafTwo, nodeTwo};
 ghost use Rattle.plan.specs.PlanFile.{Runnable};
 ghost use Rattle.plan.specs.Nodes.{count};
-ghost use Rattle.job.specs.State.{outcomeOf, cellsAt, toldBy, leafType, typePermits, isNext, leafPermits, mayCome, stateAfter};
+ghost use Rattle.state.specs.State.{outcomeOf, cellsAt, toldBy, leafType, typePermits, isNext, leafPermits, mayCome, stateAfter};
+
+// An entry of a run: the leaf's node number, then 1 (finished) or 2 (failed).
+pub struct Entry {
+    pub leaf: u8,
+    pub outcome: u8,
+}
 
 // The table after a record, where each of its entries might come where it stands.
 pub struct Replayed {

@@ -1,11 +1,11 @@
--- `job::state::may_come` meets its contract: each return by the test that led there; a bit is read by a shift.
+-- `state::may_come` meets its contract: each return by the test that led there; a bit is read by a shift.
 use borrow.Author.Needs.{needs}
 use mathlib.Core.Path.{_≡_, sym, _∙_}
 use native.Mathlib.Omega.{arith}
-use Rattle.job.specs.State.{leafPermits, mayCome}
-use Rattle.job.proofs.May.{permits-present}
-use Rattle.job.proofs.state.may_come.Statement.{statement}
-use Rattle.job.proofs.state.may_come.Tie as tie
+use Rattle.state.specs.State.{leafPermits, mayCome}
+use Rattle.state.proofs.May.{permits-present}
+use Rattle.state.proofs.may_come.Statement.{statement}
+use Rattle.state.proofs.may_come.Tie as tie
 
 wide-requires : tie.Need-wide-requires
 wide-requires c κs = search needs

@@ -1,8 +1,8 @@
--- `job::state::leaf_type` meets its contract: each return by the test that led there; an action of the plan has a type.
+-- `state::leaf_type` meets its contract: each return by the test that led there; an action of the plan has a type.
 use borrow.Author.Needs.{needs}
 use borrow.Author.Tests.{eq-eqb, ne-eqb}
-use Rattle.job.proofs.state.leaf_type.Statement.{statement}
-use Rattle.job.proofs.state.leaf_type.Tie as tie
+use Rattle.state.proofs.leaf_type.Statement.{statement}
+use Rattle.state.proofs.leaf_type.Tie as tie
 
 mul-f : tie.Need-mul-f
 mul-f c = search needs

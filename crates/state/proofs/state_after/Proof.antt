@@ -1,4 +1,4 @@
--- `job::state::state_after` meets its contract: what is left of the record from the table so far is what the whole is from the start.
+-- `state::state_after` meets its contract: what is left of the record from the table so far is what the whole is from the start.
 use mathlib.Core.Path.{_≡_, refl, sym, _∙_}
 use mathlib.Core.Bool.{true}
 use Prim.Native.Nat.{_+_, _-_, _*_, _≤_, _<_}
@@ -6,11 +6,11 @@ use native.Mathlib.Omega.{arith}
 use lib.ListN.{length, getD, length-set}
 use borrow.Author.Needs.{needs}
 use borrow.Author.Tests.{not-true, not-false}
-use Rattle.job.specs.State.{mayCome, stateAfter}
-use Rattle.job.proofs.May.{comes-small}
-use Rattle.job.proofs.Replays.{from, replay-start, replay-step, replay-end}
-use Rattle.job.proofs.state.state_after.Statement.{statement}
-use Rattle.job.proofs.state.state_after.Tie as tie
+use Rattle.state.specs.State.{mayCome, stateAfter}
+use Rattle.state.proofs.May.{comes-small}
+use Rattle.state.proofs.Replays.{from, replay-start, replay-step, replay-end}
+use Rattle.state.proofs.state_after.Statement.{statement}
+use Rattle.state.proofs.state_after.Tie as tie
 
 abbrev Inv-loop : tie.InvT-loop
 Inv-loop types nodes entries taken table₀ i₀ table i =

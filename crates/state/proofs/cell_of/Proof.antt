@@ -1,8 +1,8 @@
--- `job::state::cell_of` meets its contract: each return by the test that led there.
+-- `state::cell_of` meets its contract: each return by the test that led there.
 use borrow.Author.Needs.{needs}
 use borrow.Author.Tests.{le-ltb, lt-ltb}
-use Rattle.job.proofs.state.cell_of.Statement.{statement}
-use Rattle.job.proofs.state.cell_of.Tie as tie
+use Rattle.state.proofs.cell_of.Statement.{statement}
+use Rattle.state.proofs.cell_of.Tie as tie
 
 outcome-of-requires : tie.Need-outcome-of-requires
 outcome-of-requires c κs = search needs

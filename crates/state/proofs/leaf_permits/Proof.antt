@@ -1,9 +1,9 @@
--- `job::state::leaf_permits` meets its contract: each return by the tests that led there.
+-- `state::leaf_permits` meets its contract: each return by the tests that led there.
 use borrow.Author.Needs.{needs}
 use borrow.Author.Tests.{le-ltb, lt-ltb}
-use Rattle.job.specs.State.{leafPermits}
-use Rattle.job.proofs.state.leaf_permits.Statement.{statement}
-use Rattle.job.proofs.state.leaf_permits.Tie as tie
+use Rattle.state.specs.State.{leafPermits}
+use Rattle.state.proofs.leaf_permits.Statement.{statement}
+use Rattle.state.proofs.leaf_permits.Tie as tie
 
 mul-if2 : tie.Need-mul-if2
 mul-if2 c = search needs

@@ -1,0 +1,4 @@
+pub mod Sides
+pub mod Filled
+pub mod May
+pub mod Replays
