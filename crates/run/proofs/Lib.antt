@@ -1,1 +1,3 @@
 pub mod Heard
+pub mod Numbers
+pub mod Entries

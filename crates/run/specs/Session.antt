@@ -1,13 +1,14 @@
 -- What is said to the bytes of the input, one after the other: a newline ends a line, and each line is answered once, in its turn.
 -- The answer to an entry is the runner's own, and the job that it hands back goes on.
-use mathlib.Core.Bool.{cond}
+use mathlib.Core.Bool.{false, cond}
 use mathlib.Core.List.{List, [], _∷_}
+use mathlib.Core.Path.{_≡_}
 use Prim.Native.Nat.{ℕ}
 use lib.Dec.{eqb}
 use Rattle.job.specs.Job.{takeOf}
 use Rattle.state.specs.declared.Entry.{Entry}
 use Rattle.job.specs.declared.Job.{Job}
-use Rattle.run.specs.Line.{freshLine, lineAfter, begun, entryIn}
+use Rattle.run.specs.Line.{freshLine, lineAfter, lineOf, begun, entryIn}
 use Rattle.run.specs.declared.line.Found.{Found}
 use Rattle.run.specs.declared.line.Found.the-variants as found
 use Rattle.run.specs.declared.session.Session.{Session}
@@ -45,3 +46,13 @@ heardAll s (b ∷ bs) = heardAll (heardByte s b .session) bs
 -- The end of the input: it ends a line of which a byte has come.
 abbrev pub heardEnd : Session → Heard
 heardEnd s = cond (begun (s .line)) (answered s) (silent s)
+
+-- No byte of it is a newline.
+abbrev pub OneLine : List ℕ → Type 0
+OneLine [] = Unit {0}
+OneLine (b ∷ bs) = (eqb b 10 ≡ false) × OneLine bs
+
+-- A line and its newline, from the start of a line on: nothing is said before the newline, and then what the line as a whole is answered.
+pub record AnswersLines : Type 0 where
+  pub quiet : (j : Job) (line : List ℕ) (b : ℕ) → eqb b 10 ≡ false → heardByte (heardAll (nextLine j) line) b .say ≡ Nothing
+  pub answer : (j : Job) (line : List ℕ) → OneLine line → heardByte (heardAll (nextLine j) line) 10 ≡ answeredTo j (entryIn (lineOf freshLine line))

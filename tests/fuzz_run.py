@@ -1,0 +1,120 @@
+#!/usr/bin/env python3
+"""Runs the built program target/bin/run on random plans and sessions and compares it with the model: tests/fuzz_run.py MODEL COUNT SEED
+
+MODEL is the folder of the model (sessions.py says which). The program must have been built, by `rt check run`. One process is run for each session.
+Every other session goes line by line, each line sent once the answer to the one before it is there; the others come in pieces that end anywhere.
+The script ends with status 1 at the first session in which the two differ, and prints it.
+"""
+import os
+import random
+import select
+import subprocess
+import sys
+import tempfile
+import time
+
+from plans import damaged, number_of, random_plan
+from sessions import Model, cells_in, random_entry, said_to, told_lines
+
+# seconds that the program may take for an answer
+PATIENCE = 20
+
+
+def random_line(rng, model):
+    """an entry, mostly; else bytes that are none, many of them almost one"""
+    line = b'%d %d' % random_entry(rng, model)
+    what = rng.randrange(12)
+    if what == 0:
+        at = rng.randrange(len(line) + 1)
+        return line[:at] + rng.choice([b' ', b'0', b'-', b'+', b'\r', b'\t', b'\0', b'.', b'/', b':', b'9', b'\xff']) + line[at:]
+    if what == 1:
+        return rng.choice([b'', b' ', line + b' ', b' ' + line, b'0' + line, line[:-1], line[1:], line * 2, line + b'\r', b'256 1', b'1 256',
+                           b'4294967296 1', b'0 18446744073709551617', b'x' * rng.choice([1, 7, 8, 4095, 4096, 9000]), b'0 ' + b'1' * 5000])
+    return line
+
+
+class Program:
+    """the program in front of a plan, as a person meets it"""
+
+    def __init__(self, path, plan):
+        self.process = subprocess.Popen([path, plan], stdin=subprocess.PIPE, stdout=subprocess.PIPE, stderr=subprocess.PIPE)
+
+    def hears(self, data):
+        self.process.stdin.write(data)
+        self.process.stdin.flush()
+
+    def says(self, length):
+        """the next bytes that it writes, as many as are expected, or fewer where no more come"""
+        got, until = b'', time.time() + PATIENCE
+        while len(got) < length and time.time() < until:
+            if select.select([self.process.stdout], [], [], until - time.time())[0]:
+                more = os.read(self.process.stdout.fileno(), length - len(got))
+                if not more:
+                    break
+                got += more
+        return got.decode('ascii', 'replace')
+
+    def ends(self):
+        """what is left of what it writes, once its input has ended; and its errors"""
+        self.process.stdin.close()
+        rest, errors = self.process.stdout.read(), self.process.stderr.read()
+        return rest.decode('ascii', 'replace'), errors, self.process.wait()
+
+
+def session(path, cells, rng, plan):
+    """one session; the lines of input and the answers expected, where they differ from what is found"""
+    file = random_plan(cells, rng, rng.choice([1, 2, 3, 4, 5, 6, 8, 13, 21, 32, 32]))
+    if rng.randrange(20) == 0:
+        file = damaged(rng, file)
+    with open(plan, 'wb') as out:
+        out.write(file)
+    number = number_of(cells, file)
+    program = Program(path, plan)
+    if number:
+        found, expected = program.ends(), (f'refused {number}\n', b'', 0)
+        return 0, None if found == expected else f'{file.hex(" ")}: expected {expected}, found {found}'
+    model = Model(cells, file)
+    step_by_step = rng.randrange(2) == 0
+    count, last = rng.randrange(0, 40), rng.choice([b'', b'\n'])
+    expected, found, text = told_lines(model.told), '', b''
+    if step_by_step:
+        found = program.says(len(expected))
+    for n in range(count):
+        line = random_line(rng, model)
+        end = last if n == count - 1 else b'\n'
+        answer = said_to(model, line) if line or end else ''
+        expected += answer
+        text += line + end
+        if step_by_step and found + answer == expected:
+            program.hears(line + end)
+            found += program.says(len(answer)) if end else ''
+    if not step_by_step:
+        at = 0
+        while at < len(text):
+            size = rng.choice([1, 2, 3, 5, 17, 4096, 10000])
+            program.hears(text[at:at + size])
+            at += size
+    rest, errors, status = program.ends()
+    found += rest
+    if found == expected and not errors and not status:
+        return count, None
+    return count, f'plan {file.hex(" ")}\ninput {text!r}\nexpected {expected!r}\nfound {found!r}\nerrors {errors!r}, status {status}'
+
+
+def main():
+    if len(sys.argv) != 4:
+        sys.exit(__doc__)
+    cells, count, seed = cells_in(sys.argv[1]), int(sys.argv[2]), int(sys.argv[3])
+    root = os.path.dirname(os.path.dirname(os.path.abspath(__file__)))
+    path = os.path.join(root, 'target', 'bin', 'run')
+    rng, lines = random.Random(seed), 0
+    with tempfile.TemporaryDirectory() as folder:
+        for _ in range(count):
+            more, fault = session(path, cells, rng, os.path.join(folder, 'plan'))
+            if fault:
+                sys.exit(fault)
+            lines += more
+    print(f'{count} sessions of seed {seed} agree, {lines} lines')
+
+
+main()
