@@ -6,7 +6,7 @@ use Prim.Native.Nat.{ℕ}
 use native.Mathlib.Omega.{arith}
 use lib.Dec.{eqb}
 use borrow.Author.Tests.{eqb-true}
-use Rattle.job.specs.declared.Entry.{Entry}
+use Rattle.state.specs.declared.Entry.{Entry}
 use Rattle.run.specs.Line.{digitAfter, freshLine, lineOf, entryFrom, entryIn}
 use Rattle.run.specs.Entries.{EntryText, ReadsEntries}
 use Rattle.run.specs.declared.line.Number.{Number}

@@ -3,7 +3,7 @@
 use mathlib.Core.List.{List, [], _∷_, _++_}
 use mathlib.Core.Path.{_≡_}
 use Prim.Native.Nat.{ℕ, _+_, _*_, _≤_, _<_}
-use Rattle.job.specs.declared.Entry.{Entry}
+use Rattle.state.specs.declared.Entry.{Entry}
 use Rattle.run.specs.Line.{freshLine, lineOf, entryIn}
 use Rattle.run.specs.declared.line.Found.the-variants as found
 
