@@ -1,4 +1,4 @@
--- The bits of a number: of a union and of a common part, of a power of two, of a number cut to 64 bits; and that union is associative.
+-- The bits of a number: of a union and of a common part, and of a power of two; and that union is associative.
 use mathlib.Core.Path.{_≡_, refl, sym, ap, ap₂, _∙_}
 use mathlib.Core.Logic.{_⊎_, inl, inr}
 use Prim.Native.Nat.{ℕ, zero, suc, _+_, _-_, _*_, _/_, _%_, _^_, _<_, max, min}

@@ -1,9 +1,8 @@
 // Families of action sets. An action set is a number below 1,024, bit a for action a; a family has one bit for each of them, in sixteen
 // words of 64 bits.
 ghost use mathlib.Core.Path.{_≡_};
-ghost use Prim.Native.Nat.{ℕ, _<_, _^_, _*_};
+ghost use Prim.Native.Nat.{_<_, _^_};
 ghost use lib.Dec.{eqb};
-ghost use lib.ListN.{getD};
 ghost use Rattle.family.specs.Family.{hasAt, Empty, Single, Joined, Product, TellsEmpty};
 ghost use Rattle.family.specs.Steps.{Spread, Doubled, Spreads, Picked, Grown};
 
