@@ -1,5 +1,7 @@
 // The parts of a data file, read one after the other.
 ghost use mathlib.Core.Path.{_≡_};
+ghost use Prim.Native.Nat.{_+_, _≤_};
+ghost use lib.ListN.{length};
 ghost use Rattle.io.specs.Counts.{Counts};
 
 // Bytes at the start of a buffer, and whether they are all that were asked for.
@@ -39,7 +41,14 @@ pub fn number(fd: i32) -> u64 {
     if got.count < 4 {
         return u64::MAX;
     }
-    wide(b[0]) | wide(b[1]) << 8 | wide(b[2]) << 16 | wide(b[3]) << 24
+    four_at(&b, 0)
+}
+
+// The number of the four bytes at `at`, the lowest first.
+pub fn four_at(s: &[u8], at: usize) -> u64
+    requires { ⌜ at + 4 ≤ length (now s) ⌝ }
+{
+    wide(s[at]) | wide(s[at + 1]) << 8 | wide(s[at + 2]) << 16 | wide(s[at + 3]) << 24
 }
 
 // Whether nothing is left.

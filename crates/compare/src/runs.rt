@@ -8,6 +8,7 @@ ghost use mathlib.Core.Path.{_≡_};
 ghost use Prim.Native.Nat.{_+_, _*_, _≤_};
 ghost use lib.ListN.{length};
 ghost use Rattle.compare.specs.Runs.{numberIn, nextIn, endNumber, endIn};
+use crate::data::four_at;
 use crate::data::wide;
 use crate::tally::Outcome;
 use crate::tally::held;
@@ -70,12 +71,7 @@ fn end_in(a: Answer) -> u64
 fn number_at(s: &[u8], at: usize) -> u64
     requires { ⌜ at + 8 ≤ length (now s) ⌝ }
 {
-    let low = wide(s[at]) | wide(s[at + 1]) << 8 | wide(s[at + 2]) << 16 | wide(s[at + 3]) << 24;
-    let high = wide(s[at + 4])
-        | wide(s[at + 5]) << 8
-        | wide(s[at + 6]) << 16
-        | wide(s[at + 7]) << 24;
-    low | high << 32
+    four_at(s, at) | four_at(s, at + 4) << 32
 }
 
 // Whether the answer is the one whose bytes stand at `at`.

@@ -129,18 +129,26 @@ fn open(path: &[u8]) {
     start(&file[..n]);
 }
 
+fn ask_for_a_plan() {
+    io::write_all(
+        STDERR_FILENO,
+        b"run: one argument is due, the path of a plan file\n",
+    );
+}
+
 fn main() {
     if os::arg_count() != 2 {
-        io::write_all(
-            STDERR_FILENO,
-            b"run: one argument is due, the path of a plan file\n",
-        );
+        ask_for_a_plan();
         return;
     }
     let mut path = io::buffer();
     let n = os::arg(1, &mut path);
     if os::errno() != 0 {
         os::fail(b"the path of the plan file");
+        return;
+    }
+    if n == 0 {
+        ask_for_a_plan();
         return;
     }
     open(&path[..n]);
