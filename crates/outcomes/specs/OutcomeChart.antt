@@ -11,9 +11,9 @@ use Rattle.outcomes.specs.Families.{InPlan}
 use Rattle.process.specs.Depth.{Flat}
 
 pub record Exact (S : Sets) : Type 0 where
-  -- Any undo undoDepth: a set that is derived under a code that ends is the set of a complete run with that status.
+  -- Any undo depth: a set that is derived under a code that ends is the set of a complete run with that status.
   pub sound : (P : Process) (c : Code) (s : Status) (X : S .Set) → Ends c s → InChart S P c X → Leaves S P s X
-  -- Any undo undoDepth: the set of a complete run is derived under a code that ends with its status.
+  -- Any undo depth: the set of a complete run is derived under a code that ends with its status.
   pub complete : (P : Process) (r : Run) (s : Status) → Complete P r s → (c : Code) × Ends c s × InChart S P c (setOf S r)
   -- No compensation in an undo side: the sets that the 245 cells compute under 1 (status ok), and under 5 and 6 (status fail), are just
   -- those that some complete run with that status leaves.
