@@ -10,7 +10,7 @@ use Rattle.process.specs.Process.{Status, ok, fail, Form, Process, node}
 use Rattle.outcomes.specs.Codes.{Final, final-1, final-5, final-6}
 use Rattle.outcomes.specs.Sets.{Sets}
 use Rattle.outcomes.specs.Cells.{among, cell}
-use Rattle.outcomes.specs.Families.{Outcome, joint, outcomes, InFamily, InPlan}
+use Rattle.outcomes.specs.Families.{Outcome, joint, outcomes, InFamily, InPlan, final, final-set, planSets}
 use Rattle.process.specs.Forms.{formNumber}
 
 in-flatMap : {A B : Type 0} (k : A → List B) {x : A} {y : B} {xs : List A} → List·Memᴰ x xs → List·Memᴰ y (k x) → List·Memᴰ y (flatMap k xs)
@@ -62,9 +62,6 @@ pub among-member : (c : ℕ) (xs : List ℕ) → T (among c xs) → List·Memᴰ
 among-member c [] t = absurd t
 among-member c (x ∷ xs) t = elim (or-cases (eqb c x) (among c xs) t) [ inl e ↦ List·Memᴰ·head (eqb→eq c x e) | inr m ↦ List·Memᴰ·tail (among-member c xs m) ]
 
-abbrev pub final : ℕ → Bool
-final c = among c (1 ∷ 5 ∷ 6 ∷ [])
-
 final-holds : {c : ℕ} {s : Status} → Final c s → T (final c)
 final-holds final-1 = tt
 final-holds final-5 = tt
@@ -76,20 +73,14 @@ final-status (List·Memᴰ·tail (List·Memᴰ·head e)) = (fail, rw e final-5)
 final-status (List·Memᴰ·tail (List·Memᴰ·tail (List·Memᴰ·head e))) = (fail, rw e final-6)
 
 module _ (S : Sets) where
-  abbrev pub final-set : Outcome S → List (S .Set)
-  final-set o = cond (final (o .0)) (o .1 ∷ []) []
-
-  unfoldable pub planSets : Process → List (S .Set)
-  planSets P = flatMap final-set (outcomes S P)
-
-  pub in-plan-sets : (P : Process) {X : S .Set} (s : Status) → InPlan S P s X → List·Memᴰ X (planSets P)
+  pub in-plan-sets : (P : Process) {X : S .Set} (s : Status) → InPlan S P s X → List·Memᴰ X (planSets S P)
   unfolding planSets
-  in-plan-sets P {X} s (c, f, m) = in-flatMap final-set m (in-cond (final c) X (final-holds f))
+  in-plan-sets P {X} s (c, f, m) = in-flatMap (final-set S) m (in-cond (final c) X (final-holds f))
 
-  pub out-plan-sets : (P : Process) {X : S .Set} → List·Memᴰ X (planSets P) → (s : Status) × InPlan S P s X
+  pub out-plan-sets : (P : Process) {X : S .Set} → List·Memᴰ X (planSets S P) → (s : Status) × InPlan S P s X
   unfolding planSets
   out-plan-sets P m =
-      let (o, i, n) = out-flatMap final-set (outcomes S P) m in
+      let (o, i, n) = out-flatMap (final-set S) (outcomes S P) m in
       let (t, x) = out-cond (final (o .0)) n in
       let (s, f) = final-status (among-member (o .0) (1 ∷ 5 ∷ 6 ∷ []) t) in
       (s, (o .0, f, Memᴰ·cast (λ t. (o .0, x t)) i))

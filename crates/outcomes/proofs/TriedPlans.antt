@@ -9,10 +9,10 @@ use lib.ListN.{getD}
 use Rattle.process.specs.Process.{Status}
 use Rattle.outcomes.specs.Sets.{Leaves}
 use Rattle.outcomes.specs.Cells.{lines, cell, among}
-use Rattle.outcomes.specs.Families.{outcomes, InPlan}
+use Rattle.outcomes.specs.Families.{outcomes, InPlan, planSets}
 use Rattle.outcomes.specs.TriedPlans.{Plan, actionSets, triedPlans, TriedPlans}
 use Rattle.outcomes.proofs.OutcomeChart.{outcome-chart}
-use Rattle.outcomes.proofs.Members.{among-member, planSets, in-plan-sets, out-plan-sets}
+use Rattle.outcomes.proofs.Members.{among-member, in-plan-sets, out-plan-sets}
 use Rattle.outcomes.proofs.Table.{both-hold}
 use Rattle.process.specs.Depth.{undoDepth}
 

@@ -7,8 +7,12 @@ use lib.Dec.{ltb}
 use Rattle.process.specs.Process.{Status, ok, fail, permits, Form, sequence, parallel, choice, compensation, handler, Process, done, leaf, node}
 use Rattle.outcomes.specs.Codes.{Final}
 use Rattle.outcomes.specs.Sets.{Sets}
-use Rattle.outcomes.specs.Cells.{cell}
+use Rattle.outcomes.specs.Cells.{among, cell}
 use Rattle.process.specs.Forms.{formNumber}
+
+-- "The whole plan's sets are those under 1, 5 and 6."
+abbrev pub final : ℕ → Bool
+final c = among c (1 ∷ 5 ∷ 6 ∷ [])
 
 module _ (S : Sets) where
   -- A code and a set under it.
@@ -39,3 +43,10 @@ module _ (S : Sets) where
   -- The whole plan's sets are those under 1, where it succeeds, and under 5 and 6, where it fails.
   abbrev pub InPlan : Process → Status → S .Set → Type 0
   InPlan P s X = (c : ℕ) × Final c s × InFamily P c X
+
+  -- The whole plan's sets as a list.
+  abbrev pub final-set : Outcome → List (S .Set)
+  final-set o = cond (final (o .0)) (o .1 ∷ []) []
+
+  unfoldable pub planSets : Process → List (S .Set)
+  planSets P = flatMap final-set (outcomes P)

@@ -24,14 +24,14 @@ module _ (types b : List ℕ) (down : Descending b) where
   abbrev at : ℕ → Process
   at i = processAt types b i
 
-  process-leaf : (i : ℕ) → form b i < 3 → at i ≡ leaf i (leafKind types b i)
+  pub process-leaf : (i : ℕ) → form b i < 3 → at i ≡ leaf i (leafKind types b i)
   process-leaf i h = fold-leaf (leafOf types b) (compositeOf b) b i h
 
-  process-node : (i : ℕ) → i < count b → 3 ≤ form b i → at i ≡ node (formOf (form b i)) (at (left b i)) (at (right b i))
+  pub process-node : (i : ℕ) → i < count b → 3 ≤ form b i → at i ≡ node (formOf (form b i)) (at (left b i)) (at (right b i))
   process-node i c h = fold-node (leafOf types b) (compositeOf b) b down i c h
 
   -- a property of processes by the form of the node
-  property : (F : Process → Type 0) → ((i : ℕ) → F (leaf i (leafKind types b i)))
+  pub property : (F : Process → Type 0) → ((i : ℕ) → F (leaf i (leafKind types b i)))
       → ((i : ℕ) → i < count b → 3 ≤ form b i → F (at (left b i)) → F (at (right b i)) → F (node (formOf (form b i)) (at (left b i)) (at (right b i))))
       → (i : ℕ) → i < count b → F (at i)
   property F on-leaf on-node = node-ind b down (λ i. F (at i))
@@ -91,7 +91,7 @@ module _ (types b : List ℕ) (down : Descending b) where
   leaf-node n i c h = let (m, k, e) = leaf-found (λ m kind. n ≡ m) i c h in rw e k
 
   module _ (once : EachNamedOnce b) where
-    distinct : (i : ℕ) → i < count b → Distinct (at i)
+    pub distinct : (i : ℕ) → i < count b → Distinct (at i)
     distinct = property Distinct (λ i. tt) (λ i c f l r. (l, r, apart-leaves i c f))
       where
         apart-leaves : (i : ℕ) → i < count b → 3 ≤ form b i → Apart (at (left b i)) (at (right b i))
@@ -123,7 +123,7 @@ module _ (types b : List ℕ) (down : Descending b) where
       ap undoDepth (process-node i c f) ∙ rw (other-depth (form b i) (undoDepth (at (right b i))) (h i itself c), on-the-left, on-the-right))
 
   module _ (flat : NotNested b) where
-    shallow : (i : ℕ) → i < count b → undoDepth (at i) ≤ 1
+    pub shallow : (i : ℕ) → i < count b → undoDepth (at i) ≤ 1
     shallow = property (λ P. undoDepth P ≤ 1) (λ i. omega arith) (λ i c f l r. go i c f l r (decide (eqb (form b i) 6)))
       where
         most : (x y : ℕ) → x ≤ 1 → y ≤ 1 → max x y ≤ 1

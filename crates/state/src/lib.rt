@@ -88,7 +88,7 @@ fn type_permits(kind: u8, outcome: u8) -> bool
 }
 
 // The type of leaf n.
-fn leaf_type(types: &[u8], nodes: &[u8], n: usize) -> u8
+pub fn leaf_type(types: &[u8], nodes: &[u8], n: usize) -> u8
     requires { ⌜ Runnable (now types) (now nodes) × (n < count (now nodes)) ⌝ }
     ensures { λ r. ⌜ r ≡ leafType (now (types .entry)) (now (nodes .entry)) n ⌝ }
 {
