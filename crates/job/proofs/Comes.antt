@@ -10,7 +10,7 @@ use lib.Dec.{ltb, eqb}
 use lib.ListN.{getD}
 use borrow.Author.Tests.{eqb-true, eqb-false, eq-eqb, ne-eqb, ltb-true, lt-ltb}
 use Rattle.blocks.proofs.Bounded.{decide, both-true}
-use Rattle.process.specs.Process.{Status, ok, fail, Kind, finishes, fails, either, permits, Permits, Process, entry, Run}
+use Rattle.process.specs.Process.{Status, ok, fail, Kind, permits, Permits, Process, entry, Run}
 use Rattle.plan.specs.Nodes.{count, form, left}
 use Rattle.plan.specs.PlanFile.{Runnable}
 use Rattle.plan.specs.Tree.{typeKind, leafKind, processOf}
@@ -20,21 +20,14 @@ use Rattle.runs.specs.Cells.{toldNext}
 use Rattle.runs.specs.declared.cells.Told.{Told}
 use Rattle.runs.proofs.Beginnings.{beginnings}
 use Rattle.state.specs.State.{toldBy, leafType, typePermits, isNext, leafPermits, mayCome}
+use Rattle.state.proofs.LeafTypes.{type-finishes, type-fails, kind-type}
 use Rattle.job.specs.Offer.{statusNumber}
 use Rattle.job.proofs.Outcomes.{Stands, told-of}
 
 -- what a type permits, as a kind and as a number
 permits-type : (t : ℕ) (s : Status) → permits (typeKind t) s ≡ typePermits t (statusNumber s)
-permits-type t s = go (eqb t 1) (eqb t 2) refl refl s
-  where
-    go : (one two : Bool) → eqb t 1 ≡ one → eqb t 2 ≡ two → (s : Status) → permits (cond one finishes (cond two fails either)) s ≡ cond (eqb (statusNumber s) 1) (not two) (cond (eqb (statusNumber s) 2) (not one) false)
-    go true true e f s = absurd (omega (arith, eqb-true t 1 e, eqb-true t 2 f))
-    go true false e f ok = refl
-    go true false e f fail = refl
-    go false true e f ok = refl
-    go false true e f fail = refl
-    go false false e f ok = refl
-    go false false e f fail = refl
+permits-type t ok = type-finishes t
+permits-type t fail = type-fails t
 
 -- only 1 and 2 are outcomes
 outcome-status : (t outcome : ℕ) → typePermits t outcome ≡ true → (s : Status) × (outcome ≡ statusNumber s)
@@ -44,20 +37,6 @@ outcome-status t outcome h = go (eqb outcome 1) (eqb outcome 2) refl refl h
     go true two e f h = (ok, eqb-true outcome 1 e)
     go false true e f h = (fail, eqb-true outcome 2 f)
     go false false e f h = absurd (true≢false (sym h))
-
--- the kind of a leaf is that of its type
-kind-type : (types b : List ℕ) (n : ℕ) → form b n < 3 → leafKind types b n ≡ typeKind (leafType types b n)
-kind-type types b n h = go (eqb (form b n) 0) (eqb (form b n) 1) refl refl
-  where
-    go : (zero one : Bool) → eqb (form b n) 0 ≡ zero → eqb (form b n) 1 ≡ one
-        → cond zero (typeKind (getD types (left b n) 0)) (cond one finishes fails) ≡ typeKind (cond zero (getD types (left b n) 0) (form b n))
-    go true one e f = refl
-    go false true e f = rw (eqb-true (form b n) 1 f)
-    go false false e f =
-        let x = eqb-false (form b n) 0 e in
-        let y = eqb-false (form b n) 1 f in
-        let z : form b n ≡ 2 = omega arith in
-        rw z
 
 module _ (types b : List ℕ) (r : Runnable types b) where
   abbrev P : Process

@@ -1,0 +1,3 @@
+pub mod PlanSets
+pub mod Fill
+pub mod Derivation
