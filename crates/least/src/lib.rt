@@ -34,7 +34,7 @@ fn is_violation(rule: &[u8], pairs: &[u8], f: [u64; 16], t: usize) -> bool
 }
 
 // The smallest set of the family that breaks the rule.
-pub fn least(rule: &[u8], pairs: &[u8], f: [u64; 16]) -> Least
+pub fn find(rule: &[u8], pairs: &[u8], f: [u64; 16]) -> Least
     ensures { λ r. ⌜ LeastOf (now (rule .entry)) (now (pairs .entry)) f r ⌝ }
 {
     let mut t = 0;
