@@ -1,4 +1,4 @@
--- The bytes of a job: a plan file copied into an area of zeros, and the parts of an accepted file.
+-- The bytes of a job: a plan file copied into an area of zeros.
 use mathlib.Core.Path.{_≡_, ap}
 use mathlib.Core.List.{List, _++_}
 use Prim.Native.Nat.{ℕ, zero, suc, _-_, _≤_}
@@ -7,10 +7,6 @@ use native.Mathlib.Omega.{arith}
 use lib.ListN.{length, drop, replicate, length-replicate}
 use borrow.Author.Tests.{le-leb}
 use Rattle.blocks.specs.Area.{written}
-use Rattle.plan.specs.Reading.{readOf, endOf}
-use Rattle.plan.specs.declared.Layout.{Layout}
-use Rattle.plan.specs.declared.Reading.the-variants.{Accepted}
-use Rattle.plan.proofs.Demand1.{demand1}
 
 pub drop-zeros : (n m : ℕ) → drop {A = ℕ} n (replicate m 0) ≡ replicate (m - n) 0
 drop-zeros zero m = rw sub-zero
@@ -21,11 +17,3 @@ drop-zeros (suc n) (suc m) = rw suc-sub-suc (drop-zeros n m)
 pub padded : (size : ℕ) (s : List ℕ) → length s ≤ size → written (replicate size 0) 0 s ≡ s ++ replicate (size - length s) 0
 padded size s h =
     rw (zero-add (length s), length-replicate {A = ℕ} size 0, le-leb (length s) size h) (ap (λ (r : List ℕ). s ++ r) (drop-zeros (length s) size))
-
--- the bodies that a runner reads lie inside an accepted file
-module _ (s : List ℕ) (l : Layout) (h : readOf s ≡ Accepted l) where
-  pub types-inside : endOf (l .types) ≤ length s
-  types-inside = let r = demand1 .row s l h in omega (arith, r .pairs, r .nodes, r .rule, r .end)
-
-  pub nodes-inside : endOf (l .nodes) ≤ length s
-  nodes-inside = let r = demand1 .row s l h in omega (arith, r .rule, r .end)

@@ -1,5 +1,4 @@
 // The runner: a job carries its plan and its record so far, and lets through exactly the beginnings of its plan's runs.
-use blocks::Part;
 use plan::Layout;
 use plan::Reading;
 use runs::cells::Ended;
@@ -10,7 +9,7 @@ ghost use mathlib.Core.Bool.{true, cond};
 ghost use lib.Dec.{ltb, eqb};
 ghost use lib.ListN.{length};
 ghost use Rattle.plan.specs.PlanFile.{Runnable};
-ghost use Rattle.plan.specs.Reading.{bytesOf, readOf, endOf as partEnd};
+ghost use Rattle.plan.specs.Reading.{bytesOf, readOf};
 ghost use Rattle.job.specs.Job.{endOf, saying, refusal, noJob, freshJob, startWith, startOf, zerosFrom, tidy, withEntry, isOpen, stalled, afterEntry, takeWith, takeOn, takeOf, planOf};
 
 pub enum Status {
@@ -219,23 +218,13 @@ fn fresh_job(s: &[u8]) -> Job
     }
 }
 
-// The bytes of a part of a plan file.
-fn part_of(s: &[u8], p: Part) -> &[u8]
-    requires { ⌜ partEnd p ≤ length (now s) ⌝ }
-    ensures { λ r. ⌜ now r ≡ bytesOf (now (s .entry)) p ⌝ }
-{
-    let at = p.at;
-    let end = at + p.len;
-    &s[at..end]
-}
-
 // The job that a start makes from a plan file with this layout.
 fn start_with(s: &[u8], l: Layout) -> Taken
     requires { ⌜ readOf (now s) ≡ Reading.Accepted l ⌝ }
     ensures { λ r. ⌜ r ≡ startWith (now (s .entry)) l ⌝ }
 {
     let table = [0u8; 63];
-    let told = state::told_by(part_of(s, l.types), part_of(s, l.nodes), &table);
+    let told = state::told_by(plan::part_of(s, l.types), plan::part_of(s, l.nodes), &table);
     Taken {
         answer: Answer::Told(say(told)),
         job: fresh_job(s),
@@ -247,7 +236,7 @@ fn take_from(s: &[u8], l: Layout, j: Job, e: Entry) -> Taken
     requires { ⌜ (readOf (now s) ≡ Reading.Accepted l) × (j .taken < 63) ⌝ }
     ensures { λ r. ⌜ r ≡ takeWith (bytesOf (now (s .entry)) (l .types)) (bytesOf (now (s .entry)) (l .nodes)) j e ⌝ }
 {
-    take_with(part_of(s, l.types), part_of(s, l.nodes), j, e)
+    take_with(plan::part_of(s, l.types), plan::part_of(s, l.nodes), j, e)
 }
 
 // An entry to a job that carries the plan file `s`.

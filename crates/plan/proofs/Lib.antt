@@ -15,3 +15,4 @@ pub mod Prefix
 pub mod Numbers
 pub mod Tree
 pub mod Demand1
+pub mod Inside

@@ -10,7 +10,7 @@ mod types;
 ghost use mathlib.Core.Path.{_≡_};
 ghost use Prim.Native.Nat.{_≤_, _+_};
 ghost use lib.ListN.{length};
-ghost use Rattle.plan.specs.Reading.{lengthOk, fault, judged, bodyAt, blockAt, endOf, withRule, withNodes, withPairs, withTypes, readWithin, readOf};
+ghost use Rattle.plan.specs.Reading.{bytesOf, lengthOk, fault, judged, bodyAt, blockAt, endOf, withRule, withNodes, withPairs, withTypes, readWithin, readOf};
 
 // The limits of a plan file.
 pub const MOST_ACTIONS: u8 = 10;
@@ -193,4 +193,14 @@ pub fn read(file: &[u8]) -> Reading
     ensures { λ r. ⌜ r ≡ readOf (now (file .entry)) ⌝ }
 {
     read_within(file, MOST_ACTIONS, MOST_PAIRS)
+}
+
+// The bytes of a part of a plan file.
+pub fn part_of(file: &[u8], p: Part) -> &[u8]
+    requires { ⌜ endOf p ≤ length (now file) ⌝ }
+    ensures { λ r. ⌜ now r ≡ bytesOf (now (file .entry)) p ⌝ }
+{
+    let at = p.at;
+    let end = at + p.len;
+    &file[at..end]
 }

@@ -1,7 +1,7 @@
 -- `job::start_with` meets its contract: what running rests on holds of an accepted file's bodies.
 use borrow.Author.Needs.{needs}
 use Rattle.plan.proofs.Demand1.{demand1, runnable}
-use Rattle.job.proofs.Bytes.{types-inside, nodes-inside}
+use Rattle.plan.proofs.Inside.{types-inside, nodes-inside}
 use Rattle.job.proofs.start_with.Statement.{statement}
 use Rattle.job.proofs.start_with.Tie as tie
 

@@ -1,6 +1,6 @@
 -- `job::take_from` meets its contract: what running rests on holds of an accepted file's bodies.
 use Rattle.plan.proofs.Demand1.{runnable}
-use Rattle.job.proofs.Bytes.{types-inside, nodes-inside}
+use Rattle.plan.proofs.Inside.{types-inside, nodes-inside}
 use Rattle.job.proofs.take_from.Statement.{statement}
 use Rattle.job.proofs.take_from.Tie as tie
 

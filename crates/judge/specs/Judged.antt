@@ -1,0 +1,45 @@
+-- What `verdict` makes of its answer and of the two lent areas, on every input. Only which run is shown is left free.
+use mathlib.Core.Path.{_≡_}
+use mathlib.Core.List.{List, _++_}
+use Prim.Native.Nat.{ℕ}
+use lib.ListN.{length, drop, replicate}
+use Rattle.plan.specs.Reading.{readOf}
+use Rattle.plan.specs.declared.Layout.{Layout}
+use Rattle.plan.specs.declared.Reading.the-variants.{Accepted}
+use Rattle.judge.specs.Verdict.{workSize, recordSize, verdictOf}
+use Rattle.judge.specs.Shown.{ShowsRun}
+use Rattle.judge.specs.declared.Verdict.{Verdict}
+use Rattle.judge.specs.declared.Verdict.the-variants.{Consistent, Violated, Refused}
+
+-- "After a verdict the first 65,536 work bytes are 0. .. Later bytes are untouched."
+abbrev pub clearedWork : List ℕ → List ℕ
+clearedWork work = replicate workSize 0 ++ drop workSize work
+
+-- The first 126 bytes of the record area are these; later bytes are untouched.
+abbrev pub withRecord : List ℕ → List ℕ → List ℕ
+withRecord bytes old = bytes ++ drop recordSize old
+
+-- "The first 126 record bytes hold the run, then zeros".
+pub record Recorded (s : List ℕ) (set : ℕ) (old new : List ℕ) : Type 0 where
+  pub layout : Layout
+  pub accepted : readOf s ≡ Accepted layout
+  pub bytes : List ℕ
+  pub shows : ShowsRun s layout set bytes
+  pub is : new ≡ withRecord bytes old
+
+-- The record area after an answer. "A refusal gives its number only; lent bytes and job are unchanged." "All zeros if consistent."
+abbrev pub RecordAfter : List ℕ → Verdict → List ℕ → List ℕ → Type 0
+RecordAfter s Consistent old new = new ≡ withRecord (replicate recordSize 0) old
+RecordAfter s (Violated set) old new = Recorded s set old new
+RecordAfter s (Refused n) old new = new ≡ old
+
+-- The work area after an answer.
+abbrev pub workAfter : Verdict → List ℕ → List ℕ
+workAfter Consistent work = clearedWork work
+workAfter (Violated set) work = clearedWork work
+workAfter (Refused n) work = work
+
+pub record Judged (s work work′ old new : List ℕ) (v : Verdict) : Type 0 where
+  pub answer : v ≡ verdictOf s (length work) (length old)
+  pub work-after : work′ ≡ workAfter v work
+  pub record-after : RecordAfter s v old new

@@ -1,0 +1,4 @@
+pub mod Verdict
+pub mod Shown
+pub mod Judged
+pub mod Demand3
