@@ -7,7 +7,7 @@ use Prim.Native.Nat.{ℕ, _≤_, _<_}
 use native.Mathlib.Omega.{arith}
 use lib.ListN.{length, take, drop}
 use lib.Seq.{take-append-seam}
-use borrow.Author.Tests.{lt-ltb, le-ltb}
+use borrow.Author.Tests.{lt-ltb, le-ltb, not-true, not-false}
 use Rattle.process.specs.Process.{Status, Run}
 use Rattle.process.specs.Figure2.{Complete}
 use Rattle.plan.specs.Reading.{readOf}
@@ -22,20 +22,20 @@ use Rattle.judge.specs.Verdict.{smallest, answerOf, keepsRule, planSetsO
 use Rattle.judge.specs.Shown.{shownEntries, shownRun, runSet, ShowsRun}
 use Rattle.judge.specs.Judged.{Judged, Recorded, RecordAfter}
 use Rattle.judge.specs.Demand3.{AllKeep, Violation, Says, Demand3}
-use Rattle.judge.specs.declared.Verdict.{Verdict}
-use Rattle.judge.specs.declared.Verdict.the-variants.{Consistent, Violated, Refused}
+use Rattle.judge.specs.declared.Judgement.{Judgement}
+use Rattle.judge.specs.declared.Judgement.the-variants.{Consistent, Violated, Refused}
 use Rattle.judge.proofs.Smallest.{IsSmallest, Tells, smallest-tells}
 use Rattle.judge.proofs.PlanRuns.{left-by, run-set-listed}
 use Rattle.judge.proofs.Replay.{replays}
 use Rattle.judge.proofs.Decoded.{shown-back, shown-status}
 
 -- the answers are apart
-abbrev caseOf : Verdict → ℕ
+abbrev caseOf : Judgement → ℕ
 caseOf Consistent = 0
 caseOf (Violated t) = 1
 caseOf (Refused n) = 2
 
-abbrev setIn : Verdict → ℕ
+abbrev setIn : Judgement → ℕ
 setIn Consistent = 0
 setIn (Violated t) = t
 setIn (Refused n) = 0
@@ -56,14 +56,6 @@ module _ (s : List ℕ) (l : Layout) (h : readOf s ≡ Accepted l) where
 
   abbrev found : Least
   found = smallest breaks (planSetsOf s l)
-
-  not-false : (b : Bool) → not b ≡ false → b ≡ true
-  not-false true e = refl
-  not-false false e = absurd (true≢false e)
-
-  not-true : (b : Bool) → not b ≡ true → b ≡ false
-  not-true true e = absurd (true≢false (sym e))
-  not-true false e = refl
 
   all-keep : Tells breaks (λ t. List·Memᴰ t (planSetsOf s l)) Nothing → AllKeep s l
   all-keep none run status c = not-false _ (none (runSet s l run) (run-set-listed s l h run status c))
@@ -95,7 +87,7 @@ module _ (s : List ℕ) (l : Layout) (h : readOf s ≡ Accepted l) where
     smallest = λ run t c k. m .least (runSet s l run) (run-set-listed s l h run t c) (rw k);
   }
 
-  module _ (work work′ old new : List ℕ) (v : Verdict) (j : Judged s work work′ old new v) (enough : workSize ≤ length work) (room : recordSize ≤ length old) where
+  module _ (work work′ old new : List ℕ) (v : Judgement) (j : Judged s work work′ old new v) (enough : workSize ≤ length work) (room : recordSize ≤ length old) where
     is : v ≡ answerOf found
     is = j .answer ∙ found-answer s (length work) (length old) enough room ∙ ap (verdictOn s) h
 
@@ -115,7 +107,7 @@ module _ (s : List ℕ) (l : Layout) (h : readOf s ≡ Accepted l) where
     says : Says s l new v
     says = record {
       consistent = rw is (consistent-says found tells);
-      violated = λ set e. recorded set e (subst (λ (x : Verdict). RecordAfter s x old new) e (j .record-after));
+      violated = λ set e. recorded set e (subst (λ (x : Judgement). RecordAfter s x old new) e (j .record-after));
       not-refused = λ n e. never-refused found n (sym is ∙ e);
     }
 

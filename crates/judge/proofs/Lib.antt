@@ -3,3 +3,8 @@ pub mod PlanRuns
 pub mod Replay
 pub mod Decoded
 pub mod Demand3
+pub mod Answer
+pub mod TriedPlans
+pub mod Areas
+pub mod Judging
+pub mod File

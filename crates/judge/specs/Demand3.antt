@@ -24,8 +24,8 @@ use Rattle.job.specs.declared.End.the-variants.{MayEnd}
 use Rattle.judge.specs.Verdict.{keepsRule, workSize, recordSize, verdictOf}
 use Rattle.judge.specs.Shown.{shownEntries, shownRun, runSet}
 use Rattle.judge.specs.Judged.{Judged}
-use Rattle.judge.specs.declared.Verdict.{Verdict}
-use Rattle.judge.specs.declared.Verdict.the-variants.{Consistent, Violated, Refused}
+use Rattle.judge.specs.declared.Judgement.{Judgement}
+use Rattle.judge.specs.declared.Judgement.the-variants.{Consistent, Violated, Refused}
 
 -- "A run is offered to a fresh job where its first entry goes to the job that the start gave and each later one to the job that the one
 -- before it gave back": from x on every entry of the list is taken, and the last one leaves y.
@@ -54,14 +54,14 @@ pub record Violation (s : List ℕ) (l : Layout) (set : ℕ) (bytes : List ℕ) 
   pub smallest : (run : Run) (t : Status) → Complete (planProcess s l) run t → keepsRule s l (runSet s l run) ≡ false → set ≤ runSet s l run
 
 -- What an answer says, of an accepted plan file.
-pub record Says (s : List ℕ) (l : Layout) (new : List ℕ) (v : Verdict) : Type 0 where
+pub record Says (s : List ℕ) (l : Layout) (new : List ℕ) (v : Judgement) : Type 0 where
   pub consistent : (v ≡ Consistent) ↔ AllKeep s l
   pub violated : (set : ℕ) → v ≡ Violated set → Violation s l set (take recordSize new)
   pub not-refused : (n : ℕ) → v ≡ Refused n → ⊥
 
 pub record Demand3 : Type 0 where
   -- an accepted file, and areas that are large enough
-  pub says : (s work work′ old new : List ℕ) (v : Verdict) → Judged s work work′ old new v → workSize ≤ length work → recordSize ≤ length old
+  pub says : (s work work′ old new : List ℕ) (v : Judgement) → Judged s work work′ old new v → workSize ≤ length work → recordSize ≤ length old
       → (l : Layout) → readOf s ≡ Accepted l → Says s l new v
   -- every other input is refused: 10, then 12, then by the file's number
   pub no-work : (s : List ℕ) (work records : ℕ) → work < workSize → verdictOf s work records ≡ Refused 10

@@ -8,8 +8,8 @@ use Rattle.plan.specs.declared.Layout.{Layout}
 use Rattle.plan.specs.declared.Reading.the-variants.{Accepted}
 use Rattle.judge.specs.Verdict.{workSize, recordSize, verdictOf}
 use Rattle.judge.specs.Shown.{ShowsRun}
-use Rattle.judge.specs.declared.Verdict.{Verdict}
-use Rattle.judge.specs.declared.Verdict.the-variants.{Consistent, Violated, Refused}
+use Rattle.judge.specs.declared.Judgement.{Judgement}
+use Rattle.judge.specs.declared.Judgement.the-variants.{Consistent, Violated, Refused}
 
 -- "After a verdict the first 65,536 work bytes are 0. .. Later bytes are untouched."
 abbrev pub clearedWork : List ℕ → List ℕ
@@ -28,18 +28,18 @@ pub record Recorded (s : List ℕ) (set : ℕ) (old new : List ℕ) : Type 0 whe
   pub is : new ≡ withRecord bytes old
 
 -- The record area after an answer. "A refusal gives its number only; lent bytes and job are unchanged." "All zeros if consistent."
-abbrev pub RecordAfter : List ℕ → Verdict → List ℕ → List ℕ → Type 0
+abbrev pub RecordAfter : List ℕ → Judgement → List ℕ → List ℕ → Type 0
 RecordAfter s Consistent old new = new ≡ withRecord (replicate recordSize 0) old
 RecordAfter s (Violated set) old new = Recorded s set old new
 RecordAfter s (Refused n) old new = new ≡ old
 
 -- The work area after an answer.
-abbrev pub workAfter : Verdict → List ℕ → List ℕ
+abbrev pub workAfter : Judgement → List ℕ → List ℕ
 workAfter Consistent work = clearedWork work
 workAfter (Violated set) work = clearedWork work
 workAfter (Refused n) work = work
 
-pub record Judged (s work work′ old new : List ℕ) (v : Verdict) : Type 0 where
+pub record Judged (s work work′ old new : List ℕ) (v : Judgement) : Type 0 where
   pub answer : v ≡ verdictOf s (length work) (length old)
   pub work-after : work′ ≡ workAfter v work
   pub record-after : RecordAfter s v old new

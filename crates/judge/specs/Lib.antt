@@ -1,4 +1,6 @@
 pub mod Verdict
 pub mod Shown
 pub mod Judged
+pub mod Inner
 pub mod Demand3
+pub mod TriedPlans

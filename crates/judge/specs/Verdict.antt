@@ -12,8 +12,8 @@ use Rattle.rule.specs.Value.{satisfies}
 use Rattle.sets.specs.PlanSets.{setsOf}
 use Rattle.least.specs.declared.Least.{Least}
 use Rattle.least.specs.declared.Least.the-variants.{Found, Nothing}
-use Rattle.judge.specs.declared.Verdict.{Verdict}
-use Rattle.judge.specs.declared.Verdict.the-variants.{Consistent, Violated, Refused}
+use Rattle.judge.specs.declared.Judgement.{Judgement}
+use Rattle.judge.specs.declared.Judgement.the-variants.{Consistent, Violated, Refused}
 
 -- The smaller of t and what was found among the others.
 abbrev pub orSmaller : ℕ → Least → Least
@@ -25,7 +25,7 @@ unfoldable pub smallest : (ℕ → Bool) → List ℕ → Least
 smallest p [] = Nothing
 smallest p (t ∷ ts) = cond (p t) (orSmaller t (smallest p ts)) (smallest p ts)
 
-abbrev pub answerOf : Least → Verdict
+abbrev pub answerOf : Least → Judgement
 answerOf Nothing = Consistent
 answerOf (Found t) = Violated t
 
@@ -38,7 +38,7 @@ abbrev pub planSetsOf : List ℕ → Layout → List ℕ
 planSetsOf s l = setsOf (bytesOf s (l .types)) (bytesOf s (l .nodes))
 
 -- Consistent, or the smallest set of the plan that breaks its rule.
-abbrev pub verdictOn : List ℕ → Reading → Verdict
+abbrev pub verdictOn : List ℕ → Reading → Judgement
 verdictOn s (reading.Accepted l) = answerOf (smallest (λ t. not (keepsRule s l t)) (planSetsOf s l))
 verdictOn s (reading.Refused n) = Refused n
 
@@ -49,11 +49,11 @@ abbrev pub recordSize : ℕ
 recordSize = 126
 
 -- "A verdict checks 10, 12, then the file."
-abbrev pub verdictOf : List ℕ → ℕ → ℕ → Verdict
+abbrev pub verdictOf : List ℕ → ℕ → ℕ → Judgement
 verdictOf s work records = cond (ltb work workSize) (Refused 10) (cond (ltb records recordSize) (Refused 12) (verdictOn s (readOf s)))
 
 -- Document 01's number for each refusal; 0 stands for none.
-abbrev pub numberOf : Verdict → ℕ
+abbrev pub numberOf : Judgement → ℕ
 numberOf Consistent = 0
 numberOf (Violated t) = 0
 numberOf (Refused n) = n

@@ -1,6 +1,110 @@
-// The verdict on a plan.
-pub enum Verdict {
+// The verdict on a plan: consistent, or the smallest set that breaks its rule with a complete run that leaves it.
+ghost use mathlib.Core.Path.{_≡_};
+ghost use Prim.Native.Nat.{_≤_};
+ghost use lib.ListN.{length};
+ghost use Rattle.plan.specs.PlanFile.{Runnable};
+ghost use Rattle.plan.specs.Reading.{readOf};
+ghost use Rattle.least.specs.Least.{FinalSet};
+ghost use Rattle.judge.specs.Verdict.{workSize, recordSize};
+ghost use Rattle.judge.specs.Judged.{Judged};
+ghost use Rattle.judge.specs.Inner.{UnderFinal, Leaving, Leads, JudgedPlan};
+use least::Least;
+use plan::Layout;
+use plan::Reading;
+use summary::Summary;
+
+// The bytes that a work area and a record area must have.
+pub const WORK: usize = 65536;
+
+pub const RECORD: usize = 126;
+
+pub enum Judgement {
     Consistent,
     Violated(usize),
     Refused(u8),
+}
+
+// A judgement, and the bytes of the run that is shown beside it.
+pub struct Finding {
+    pub judgement: Judgement,
+    pub run: [u8; 126],
+}
+
+// A code of complete runs that has the set.
+fn final_code(s: Summary, set: usize) -> u8
+    ensures { λ r. ⌜ (FinalSet s set → UnderFinal s set r) ⌝ }
+{
+    let succeeded = s.s1;
+    let undone = s.s5;
+    if family::member(succeeded, set) {
+        return 1;
+    }
+    if family::member(undone, set) {
+        return 5;
+    }
+    6
+}
+
+// The bytes of a run that leaves the set, from the summaries in the work area.
+fn run_leaving(types: &[u8], nodes: &[u8], work: &[u8], root: Summary, set: usize) -> [u8; 126]
+    requires { ⌜ Leaving (now types) (now nodes) (now work) root set ⌝ }
+    ensures { λ r. ⌜ Leads (now (types .entry)) (now (nodes .entry)) set r ⌝ }
+{
+    let code = final_code(root, set);
+    let marks = derivation::derive(types, nodes, work, code, set);
+    let codes = marks.codes;
+    shown::show(types, nodes, &codes)
+}
+
+// Judges a plan by its four bodies.
+fn judge(types: &[u8], pairs: &[u8], nodes: &[u8], rule: &[u8], work: &mut [u8]) -> Finding
+    requires { ⌜ Runnable (now types) (now nodes) × (workSize ≤ length (now work)) ⌝ }
+    ensures { λ r. ⌜ JudgedPlan (now (types .entry)) (now (pairs .entry)) (now (nodes .entry)) (now (rule .entry)) (now (work .entry)) (now (work .exit)) (r .judgement) (r .run) ⌝ }
+{
+    sets::fill(types, nodes, work);
+    let root = summary::area::load(work, nodes.len() / 3 - 1);
+    match least::find(rule, pairs, least::finals(root)) {
+        Least::Nothing => Finding {
+            judgement: Judgement::Consistent,
+            run: [0u8; 126],
+        },
+        Least::Found(set) => Finding {
+            judgement: Judgement::Violated(set),
+            run: run_leaving(types, nodes, work, root, set),
+        },
+    }
+}
+
+// Judges a plan file with this layout.
+fn judge_file(file: &[u8], l: Layout, work: &mut [u8], shown: &mut [u8]) -> Judgement
+    requires { ⌜ (readOf (now file) ≡ Reading.Accepted l) × (workSize ≤ length (now work)) × (recordSize ≤ length (now shown)) ⌝ }
+    ensures { λ r. ⌜ Judged (now (file .entry)) (now (work .entry)) (now (work .exit)) (now (shown .entry)) (now (shown .exit)) r ⌝ }
+{
+    let j = judge(
+        plan::part_of(file, l.types),
+        plan::part_of(file, l.pairs),
+        plan::part_of(file, l.nodes),
+        plan::part_of(file, l.rule),
+        work,
+    );
+    let run = j.run;
+    blocks::clear(work, 0, WORK);
+    blocks::copy(shown, 0, &run);
+    j.judgement
+}
+
+// The verdict on a plan file. The work area is cleared, and the record area gets the run that is shown.
+pub fn verdict(file: &[u8], work: &mut [u8], record: &mut [u8]) -> Judgement
+    ensures { λ r. ⌜ Judged (now (file .entry)) (now (work .entry)) (now (work .exit)) (now («record» .entry)) (now («record» .exit)) r ⌝ }
+{
+    if work.len() < WORK {
+        return Judgement::Refused(10);
+    }
+    if record.len() < RECORD {
+        return Judgement::Refused(12);
+    }
+    match plan::read(file) {
+        Reading::Refused(n) => Judgement::Refused(n),
+        Reading::Accepted(l) => judge_file(file, l, work, record),
+    }
 }

@@ -11,4 +11,3 @@ pub mod Shown
 pub mod Families
 pub mod ActionSets
 pub mod OutcomeChart
-pub mod TriedPlans

@@ -4,4 +4,3 @@ pub mod Chart
 pub mod Cells
 pub mod Families
 pub mod OutcomeChart
-pub mod TriedPlans

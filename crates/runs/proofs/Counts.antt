@@ -72,7 +72,7 @@ module _ (n : ℕ) where
       by true e i j = inl (i (ltb-true 0 (sumOfLeaves here P) e))
       by false e i j = inr (j (omega (arith, ltb-false 0 (sumOfLeaves here P) e)))
 
-  leaf-once : (P : Process) → Distinct P → sumOfLeaves here P ≤ 1
+  pub leaf-once : (P : Process) → Distinct P → sumOfLeaves here P ≤ 1
   leaf-once done d = omega arith
   leaf-once (leaf m k) d = by (eqb n m)
     where

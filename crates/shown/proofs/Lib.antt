@@ -1,0 +1,6 @@
+pub mod Choices
+pub mod Traces
+pub mod Joined
+pub mod Room
+pub mod Derived
+pub mod Filled

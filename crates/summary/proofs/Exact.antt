@@ -37,7 +37,7 @@ module _ (form : ℕ) (h : 3 ≤ form) (l : form ≤ 7) where
       let e : form - 3 + 3 ≡ form = omega arith in
       both-hold (eqb (formNumber (formOf form)) form) (eqb (cell form 0 0) 0) (subst (λ (n : ℕ). T (form-test n)) e (at-number 5 (λ n. form-test (n + 3)) tt (form - 3) (omega arith)))
 
-  same-number : formNumber (formOf form) ≡ form
+  pub same-number : formNumber (formOf form) ≡ form
   same-number = eqb→eq _ _ (form-tests .0)
 
   cell-none : cell form 0 0 ≡ 0

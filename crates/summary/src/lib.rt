@@ -18,7 +18,7 @@ pub struct Summary {
 }
 
 // The family of a code.
-fn family_of(s: Summary, code: u8) -> [u64; 16]
+pub fn family_of(s: Summary, code: u8) -> [u64; 16]
     requires { ⌜ code < 7 ⌝ }
     ensures { λ r. ⌜ r ≡ familyOf s code ⌝ }
 {

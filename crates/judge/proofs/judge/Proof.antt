@@ -1,0 +1,70 @@
+use native.Mathlib.Omega.{arith}
+use mathlib.Core.Path.{refl}
+use Rattle.least.specs.declared.Least.the-variants.{Found, Nothing}
+use borrow.Author.Needs.{needs}
+use Rattle.judge.proofs.Judging.{leaving, judged-plan}
+use Rattle.judge.proofs.judge.Statement.{statement}
+use Rattle.judge.proofs.judge.Tie as tie
+
+fill-requires : tie.Need-fill-requires
+fill-requires c κs = search needs
+
+sub-load : tie.Need-sub-load
+sub-load c = search needs
+
+load-requires : tie.Need-load-requires
+load-requires c κs = search needs
+
+finals-requires : tie.Need-finals-requires
+finals-requires c κs = search needs
+
+find-requires : tie.Need-find-requires
+find-requires c κs = search needs
+
+enum-told : tie.Need-enum-told
+enum-told c = search needs
+
+enum-known-set : tie.Need-enum-known-set
+enum-known-set c = search needs
+
+run-leaving-requires : tie.Need-run-leaving-requires
+run-leaving-requires c κs =
+    let d = c .before .before in
+    let s = c .before .before .before .before .before .before .before .before .before .before .before .before .before .before .before .before .before in
+    let a = s .args in
+    leaving (a .types .now) (a .pairs .now) (a .nodes .now) (a .rule .now) (a .work .now) _ (s .pre .0) (c .before .before .before .before .before .before .before .before .before .before .fill .ensures) _ (c .before .before .before .before .before .before .load .ensures) _ (c .before .before .before .before .before .finals .ensures) _ _ (d .set .given .1) (c .before .before .before .before .find .ensures)
+
+same-length : tie.Need-same-length
+same-length c = search needs
+
+returns : tie.Need-returns
+returns c =
+    let s = c .before .before .before .before .before .before .before .before .before .before .before .before .before .before .before in
+    let a = s .args in
+    judged-plan (a .types .now) (a .pairs .now) (a .nodes .now) (a .rule .now) (a .work .now) _ (s .pre .0) (c .before .before .before .before .before .before .before .before .fill .ensures) _ (c .before .before .before .before .load .ensures) _ (c .before .before .before .finals .ensures) _ Nothing _ (c .enum-told .given .1) (c .before .before .find .ensures) refl
+
+same-length-2 : tie.Need-same-length-2
+same-length-2 c = search needs
+
+returns-2 : tie.Need-returns-2
+returns-2 c =
+    let s = c .before .before .before .before .before .before .before .before .before .before .before .before .before .before .before .before .before .before in
+    let a = s .args in
+    judged-plan (a .types .now) (a .pairs .now) (a .nodes .now) (a .rule .now) (a .work .now) _ (s .pre .0) (c .before .before .before .before .before .before .before .before .before .before .before .fill .ensures) _ (c .before .before .before .before .before .before .before .load .ensures) _ (c .before .before .before .before .before .before .finals .ensures) _ (Found _) _ (c .before .before .before .set .given .1) (c .before .before .before .before .before .find .ensures) (c .run-leaving .ensures)
+
+pub judge-spec : {M : Type 1} → statement M
+judge-spec =
+    tie.close
+    (tie.spec
+    fill-requires
+    sub-load
+    load-requires
+    finals-requires
+    find-requires
+    enum-told
+    enum-known-set
+    run-leaving-requires
+    same-length
+    returns
+    same-length-2
+    returns-2)

@@ -1,0 +1,26 @@
+-- `judge::run_leaving` meets its contract: the code is final, the derivation has the set under it, and what it shows leaves the set.
+use borrow.Author.Needs.{needs}
+use Rattle.judge.proofs.run_leaving.Statement.{statement}
+use Rattle.judge.proofs.run_leaving.Tie as tie
+
+final-code-requires : tie.Need-final-code-requires
+final-code-requires c κs = search needs
+
+derive-requires : tie.Need-derive-requires
+derive-requires c κs =
+    let s = c .before .before .before .before in
+    let u = c .final-code .ensures (s .pre .left) in
+    (s .pre .plan, s .pre .holds, s .pre .exact (c .final-code .result) (s .args .set) .0 (u .has))
+
+show-requires : tie.Need-show-requires
+show-requires c κs = c .before .before .before .before .before .before .before .pre .plan
+
+returns : tie.Need-returns
+returns c =
+    let d = c .before .before .before in
+    let f = d .before in
+    let u = f .final-code .ensures (f .before .before .before .before .pre .left) in
+    record { status = u .status; shown = c .show .ensures _ _ _ (u .status) (d .derive .ensures) (u .final) }
+
+pub run-leaving-spec : {M : Type 1} → statement M
+run-leaving-spec = tie.close (tie.spec final-code-requires derive-requires show-requires returns)

@@ -1,0 +1,191 @@
+-- `shown::show` meets its contract: the levels of the nodes passed are filled in, each part of a node before it; the last node's are those
+-- of the run that is shown.
+use mathlib.Core.Path.{_≡_, refl}
+use mathlib.Core.Bool.{cond}
+use mathlib.Core.List.{[]}
+use Prim.Native.Nat.{_-_, _/_, _<_}
+use native.Mathlib.Omega.{arith}
+use lib.Dec.{ltb}
+use lib.ListN.{length, getD}
+use borrow.Author.Needs.{needs}
+use Rattle.plan.specs.Nodes.{count, form, left, right}
+use Rattle.plan.proofs.Tree.{parts-smaller}
+use Rattle.state.proofs.Sides.{left-small, right-small}
+use Rattle.shown.specs.Levels.{leafAt, nodeAt}
+use Rattle.shown.specs.declared.Levels.{Levels}
+use Rattle.shown.proofs.Filled.{Filled, filled-none, filled-more}
+use Rattle.shown.proofs.Derived.{shown-bytes}
+use Rattle.shown.proofs.show.Statement.{statement}
+use Rattle.shown.proofs.show.Tie as tie
+
+-- what stands past the end of an array of levels
+abbrev blank : Levels
+blank = record { count = 0; forward = record { bytes = []; len = 0 }; undo = record { bytes = []; len = 0 } }
+
+abbrev Inv-loop : tie.InvT-loop
+Inv-loop types nodes codes n table₀ i₀ table i = (n ≡ count nodes) × Filled (leafAt codes) (nodeAt nodes) nodes blank i table
+
+abbrev μ-loop : tie.MeasureT-loop
+μ-loop types nodes codes n table₀ i₀ table i = n - i
+
+nothing-requires : tie.Need-nothing-requires Inv-loop μ-loop
+nothing-requires c κs = search needs
+
+ran-requires : tie.Need-ran-requires Inv-loop μ-loop
+ran-requires c κs = search needs
+
+loop-holds : tie.Need-loop-holds Inv-loop μ-loop
+loop-holds c =
+    let a = c .before .before .before .before .args in
+    (refl, filled-none (leafAt (a .codes .now)) (nodeAt (a .nodes .now)) (a .nodes .now) blank _ refl)
+
+mul-wide : tie.Need-mul-wide Inv-loop μ-loop
+mul-wide c = omega arith
+
+add-wide : tie.Need-add-wide Inv-loop μ-loop
+add-wide c = omega arith
+
+shared-slice-read-wide : tie.Need-shared-slice-read-wide Inv-loop μ-loop
+shared-slice-read-wide c = omega arith
+
+wide-requires : tie.Need-wide-requires Inv-loop μ-loop
+wide-requires c κs = search needs
+
+mul-wide-2 : tie.Need-mul-wide-2 Inv-loop μ-loop
+mul-wide-2 c = omega arith
+
+add-wide-2 : tie.Need-add-wide-2 Inv-loop μ-loop
+add-wide-2 c = omega arith
+
+shared-slice-read-wide-2 : tie.Need-shared-slice-read-wide-2 Inv-loop μ-loop
+shared-slice-read-wide-2 c = omega arith
+
+wide-requires-2 : tie.Need-wide-requires-2 Inv-loop μ-loop
+wide-requires-2 c κs = search needs
+
+cast-levels-of : tie.Need-cast-levels-of Inv-loop μ-loop
+cast-levels-of c = omega arith
+
+mul-levels-of : tie.Need-mul-levels-of Inv-loop μ-loop
+mul-levels-of c = omega arith
+
+shared-slice-read-levels-of : tie.Need-shared-slice-read-levels-of Inv-loop μ-loop
+shared-slice-read-levels-of c = omega arith
+
+element-copy-out-levels-of : tie.Need-element-copy-out-levels-of Inv-loop μ-loop
+element-copy-out-levels-of c = omega arith
+
+-- the node that is passed is there
+present : (c : tie.After-wide Inv-loop μ-loop) → let l = c .before .before .before in l .loop .i < count (l .before .before .before .before .before .args .nodes .now)
+present c = omega arith
+
+-- the parts' numbers lie in the table
+left-bound : (c : tie.After-wide Inv-loop μ-loop) → c .wide .result < 63
+left-bound c =
+    let l = c .before .before .before in
+    let s = l .before .before .before .before .before in
+    rw (c .wide .ensures) (left-small (s .args .types .now) (s .args .nodes .now) (s .pre) (l .loop .i) (omega arith))
+
+right-bound : (c : tie.After-wide2 Inv-loop μ-loop) → c .wide2 .result < 63
+right-bound c =
+    let l = c .before .before .before .before .before in
+    let s = l .before .before .before .before .before in
+    rw (c .wide2 .ensures) (right-small (s .args .types .now) (s .args .nodes .now) (s .pre) (l .loop .i) (omega arith))
+
+mul-levels-of-2 : tie.Need-mul-levels-of-2 Inv-loop μ-loop
+mul-levels-of-2 c = omega (arith, left-bound (c .before .before .before .before))
+
+array-copy-out-levels-of : tie.Need-array-copy-out-levels-of Inv-loop μ-loop
+array-copy-out-levels-of c = left-bound (c .before .before .before .before)
+
+mul-levels-of-3 : tie.Need-mul-levels-of-3 Inv-loop μ-loop
+mul-levels-of-3 c = omega (arith, right-bound (c .before .before .before))
+
+array-copy-out-levels-of-2 : tie.Need-array-copy-out-levels-of-2 Inv-loop μ-loop
+array-copy-out-levels-of-2 c = right-bound (c .before .before .before)
+
+levels-of-requires : tie.Need-levels-of-requires Inv-loop μ-loop
+levels-of-requires c κs = search needs
+
+mul-table : tie.Need-mul-table Inv-loop μ-loop
+mul-table c = omega arith
+
+array-set-from-table : tie.Need-array-set-from-table Inv-loop μ-loop
+array-set-from-table c = omega arith
+
+add-i : tie.Need-add-i Inv-loop μ-loop
+add-i c = omega arith
+
+loop-less : tie.Need-loop-less Inv-loop μ-loop
+loop-less c = omega arith
+
+loop-again : tie.Need-loop-again Inv-loop μ-loop
+loop-again c =
+    let l = c .before .before .before .before .before .before .before .before .before .before in
+    let s = l .before .before .before .before .before in
+    let b = s .args .nodes .now in
+    let codes = s .args .codes .now in
+    let i = l .loop .i in
+    let here = present (c .before .before .before .before .before .before .before) in
+    let table = l .loop .table in
+    let e : c .levels-of .result ≡ cond (ltb (form b i) 3) (leafAt codes i) (nodeAt b i (getD table (left b i) blank) (getD table (right b i) blank)) =
+    rw (← c .before .before .before .before .before .before .before .wide .ensures, ← c .before .before .before .before .before .wide2 .ensures) (c .levels-of .ensures) in
+    (l .loop .inv .0, filled-more (leafAt codes) (nodeAt b) b blank (parts-smaller (s .args .types .now) b (s .pre)) i table (c .levels-of .result) here (omega (arith, here, s .pre .nodes-few)) e (l .loop .inv .1))
+
+sub-top : tie.Need-sub-top Inv-loop μ-loop
+sub-top c = omega arith
+
+mul-top : tie.Need-mul-top Inv-loop μ-loop
+mul-top c = omega arith
+
+array-copy-out-top : tie.Need-array-copy-out-top Inv-loop μ-loop
+array-copy-out-top c = omega arith
+
+append-requires : tie.Need-append-requires Inv-loop μ-loop
+append-requires c κs = search needs
+
+returns : tie.Need-returns Inv-loop μ-loop
+returns c code set sets status d final =
+    let l = c .before .before .before .before in
+    let s = l .before .before .before .before .before in
+    let b = s .args .nodes .now in
+    let last = length b / 3 - 1 in
+    let top = l .loop .inv .1 .entries last (omega (arith, s .pre .nodes-some)) in
+    shown-bytes (s .args .types .now) b (s .pre) d (getD (l .loop .table) last blank) (c .before .append .result) top (c .before .append .ensures) final
+
+pub show-spec : {M : Type 1} → statement M
+show-spec =
+    tie.close
+    (tie.spec
+    Inv-loop
+    μ-loop
+    nothing-requires
+    ran-requires
+    loop-holds
+    mul-wide
+    add-wide
+    shared-slice-read-wide
+    wide-requires
+    mul-wide-2
+    add-wide-2
+    shared-slice-read-wide-2
+    wide-requires-2
+    cast-levels-of
+    mul-levels-of
+    shared-slice-read-levels-of
+    element-copy-out-levels-of
+    mul-levels-of-2
+    array-copy-out-levels-of
+    mul-levels-of-3
+    array-copy-out-levels-of-2
+    levels-of-requires
+    mul-table
+    array-set-from-table
+    add-i
+    loop-less
+    loop-again
+    sub-top
+    mul-top
+    array-copy-out-top
+    append-requires
+    returns)
