@@ -2,7 +2,7 @@
 -- equates its answer with. Demand 3 says what it means for the runs of the plan.
 use mathlib.Core.Bool.{Bool, not, cond}
 use mathlib.Core.List.{List, [], _∷_}
-use Prim.Native.Nat.{ℕ}
+use Prim.Native.Nat.{ℕ, _+_, _%_}
 use lib.Dec.{ltb}
 use Rattle.plan.specs.Reading.{bytesOf, readOf}
 use Rattle.plan.specs.declared.Layout.{Layout}
@@ -57,3 +57,10 @@ abbrev pub numberOf : Judgement → ℕ
 numberOf Consistent = 0
 numberOf (Violated t) = 0
 numberOf (Refused n) = n
+
+-- One number for each answer, for callers that have no enum: 0 consistent, 65,536 and the set, twice 65,536 and the refusal's number. A set
+-- is below 1,024; the remainder makes the definition total.
+abbrev pub codeOf : Judgement → ℕ
+codeOf Consistent = 0
+codeOf (Violated t) = 65536 + t % 65536
+codeOf (Refused n) = 131072 + n

@@ -5,7 +5,7 @@ ghost use lib.ListN.{length};
 ghost use Rattle.plan.specs.PlanFile.{Runnable};
 ghost use Rattle.plan.specs.Reading.{readOf};
 ghost use Rattle.least.specs.Least.{FinalSet};
-ghost use Rattle.judge.specs.Verdict.{workSize, recordSize};
+ghost use Rattle.judge.specs.Verdict.{workSize, recordSize, codeOf};
 ghost use Rattle.judge.specs.Judged.{Judged};
 ghost use Rattle.judge.specs.Inner.{UnderFinal, Leaving, Leads, JudgedPlan};
 use least::Least;
@@ -22,6 +22,17 @@ pub enum Judgement {
     Consistent,
     Violated(usize),
     Refused(u8),
+}
+
+// One number for a judgement: 0 consistent, 65,536 and the set, twice 65,536 and the refusal's number.
+pub fn code(j: Judgement) -> u32
+    ensures { λ r. ⌜ r ≡ codeOf j ⌝ }
+{
+    match j {
+        Judgement::Consistent => 0,
+        Judgement::Violated(set) => 65536 + (set % 65536) as u32,
+        Judgement::Refused(n) => 131072 + n as u32,
+    }
 }
 
 // A judgement, and the bytes of the run that is shown beside it.

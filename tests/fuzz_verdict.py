@@ -1,0 +1,89 @@
+#!/usr/bin/env python3
+"""Runs the built programs target/bin/verdict and run on random plans and compares them with the model: tests/fuzz_verdict.py MODEL COUNT SEED
+
+MODEL is the folder of the model (sessions.py says which). The programs must have been built, by `rt check verdict run`. The verdict and its set are the
+model's. A run that is shown must be taken entry by entry by the model's runner, and end there; it must leave the set; of a small plan it is
+held against all runs as well. Then it is offered line by line to the program `run`, which must take every entry and say that the run may end.
+The script ends with status 1 at the first plan in which something differs, and prints it.
+"""
+import collections
+import os
+import random
+import subprocess
+import sys
+import tempfile
+from concurrent.futures import ThreadPoolExecutor
+
+from plans import damaged, random_plan
+from sessions import FEW_LEAVES, Model, cells_in, leaves_of
+
+
+def said(command, data):
+    """what the program writes, and nothing else"""
+    run = subprocess.run(command, input=data, capture_output=True)
+    if run.returncode or run.stderr:
+        return f'status {run.returncode}, {run.stderr!r}'
+    return run.stdout.decode('ascii', 'replace')
+
+
+def fault_of_run(cells, file, number, entries):
+    """why the entries are no run of the plan that leaves the set; '' where they are"""
+    model = Model(cells, file)
+    for entry in entries:
+        if model.take(entry) is None:
+            return f'{entry} is refused'
+    if model.told[1] is None:
+        return 'the run may not end'
+    if cells.set_of(entries, model.tree) != number:
+        return 'the run leaves another set'
+    return cells.shown_run_faults(file, number, entries) if len(leaves_of(model.tree)) <= FEW_LEAVES else ''
+
+
+def fault_of_session(run, file, entries):
+    """why the program `run` does not take the entries to an end; '' where it does"""
+    with tempfile.NamedTemporaryFile() as plan:
+        plan.write(file)
+        plan.flush()
+        lines = said([run, plan.name], b''.join(b'%d %d\n' % entry for entry in entries)).splitlines()
+    if any(line.startswith(('refused', 'not', 'status')) for line in lines) or len(lines) != 2 * len(entries) + 2:
+        return f'the session is {lines}'
+    return '' if lines[-1].startswith('may end') else f'the session ends with {lines[-1]}'
+
+
+def fault_of(cells, programs, file, text):
+    """what is wrong with the text that the program wrote for the file; '' where nothing is"""
+    expected = cells.verdict(bytes(file))
+    first, *rest = text.split('\n')
+    if first != ' '.join(str(part) for part in expected):
+        return f'expected {expected}'
+    if expected[0] != 'violated':
+        return '' if rest == [''] else 'something follows'
+    if rest[-1] != '':
+        return 'the last line has no end'
+    entries = [tuple(int(part) for part in line.split(' ')) for line in rest[:-1]]
+    return fault_of_run(cells, bytes(file), expected[1], entries) or fault_of_session(programs['run'], bytes(file), entries)
+
+
+def main():
+    if len(sys.argv) != 4:
+        sys.exit(__doc__)
+    cells, count, seed = cells_in(sys.argv[1]), int(sys.argv[2]), int(sys.argv[3])
+    root = os.path.dirname(os.path.dirname(os.path.abspath(__file__)))
+    programs = {name: os.path.join(root, 'target', 'bin', name) for name in ('verdict', 'run')}
+    rng = random.Random(seed)
+    met, entries = collections.Counter(), 0
+    with ThreadPoolExecutor(2) as pool:
+        for start in range(0, count, 200):
+            files = [random_plan(cells, rng) for _ in range(min(200, count - start))]
+            files = [damaged(rng, file) if rng.randrange(8) == 0 else file for file in files]
+            for file, text in zip(files, pool.map(lambda f: said([programs['verdict']], f), files)):
+                fault = fault_of(cells, programs, file, text)
+                if fault:
+                    print(f'{bytes(file).hex(" ")}\nthe program wrote {text!r}: {fault}')
+                    sys.exit(1)
+                met[text.split(' ')[0].strip()] += 1
+                entries += max(0, text.count('\n') - 1)
+    print(f'{count} plans agree: {dict(met)}, {entries} entries shown')
+
+
+main()
