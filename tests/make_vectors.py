@@ -1,8 +1,8 @@
 #!/usr/bin/env python3
 """Writes the vectors of the program `compare` anew: tests/make_vectors.py MODEL
 
-MODEL is the folder of the model (plans.py and sessions.py say which). Written: crates/compare/data/files and runs, crates/compare/stdout,
-crates/inspect/stdin, and the session of the program `run`, crates/run/data/plan, stdin and stdout.
+MODEL is the folder of the model (plans.py and sessions.py say which). Written: crates/compare/data/files, runs and verdicts, crates/compare/stdout,
+crates/inspect/stdin, crates/verdict/stdin and stdout, and the session of the program `run`, crates/run/data/plan, stdin and stdout.
 docs/VECTORS.md has the format. The numbers expected are the model's. Where document 01 names one, the script ends if the model has another.
 Nothing but the seeds below decides what is made, so that a second run writes the same bytes.
 """
@@ -13,6 +13,7 @@ import sys
 
 from plans import block, blocks_of, damaged, model_in, number_of, random_plan
 from sessions import Model, cells_in, permitted, random_entries, session_of
+from verdicts import verdict_vectors
 
 SEED_PLANS, PLANS = 20071, 300
 SEED_DAMAGED, DAMAGED = 20072, 1000
@@ -483,9 +484,14 @@ def main():
     runs = list(runs_vectors(cells))
     write('crates/compare/data/files', files)
     write('crates/compare/data/runs', data_of(runs))
-    counts = ''.join(f'{group}: {n} vectors, {n} agree\n' for group, n in (('files', len(vectors)), ('runs', len(runs))))
+    verdicts = list(verdict_vectors(model, plans_of_document(), edges_of_lengths()))
+    write('crates/compare/data/verdicts', data_of(verdicts))
+    counts = ''.join(f'{group}: {n} vectors, {n} agree\n' for group, n in (('files', len(vectors)), ('runs', len(runs)), ('verdicts', len(verdicts))))
     write('crates/compare/stdout', counts.encode())
     write('crates/inspect/stdin', P1)
+    # document 01 has these four lines
+    write('crates/verdict/stdin', dict(plans_of_document())['P2'])
+    write('crates/verdict/stdout', b'violated 2\n0 2\n1 1\n3 1\n')
     write('crates/run/data/plan', P1)
     write('crates/run/stdin', session_of_document())
     write('crates/run/stdout', session_of(cells, P1, session_of_document()).encode())
@@ -495,6 +501,9 @@ def main():
     taken = sum(step[2] == 0 for step in steps)
     jobs = sum(body[0] == 1 for _, body in runs)
     print(f'runs: {len(runs) - jobs} sessions, {len(steps)} entries offered, {taken} of them taken; {jobs} jobs, {MADE_UP} of them real')
+    answers = [int.from_bytes(body[:4], 'little') // 65536 for _, body in verdicts]
+    print(f'verdicts: {answers.count(0)} consistent, {answers.count(1)} violated, {answers.count(2)} refused')
+
 
 
 main()

@@ -1,0 +1,131 @@
+/* The named cases, and the reader of their words. "The report" is UCLA report TR-070011. */
+#include "cases.h"
+
+#include <string.h>
+
+/* Figure 6. 0 SaveOrder, 1 ReserveCredit, 2 Failed, 3 RestoreCredit, 4 SplitOrder, 5 FulfillPO, 6 MarkPOFailed, 7 CancelPO,
+   8 BillCustomer, 9 Complete: just ten actions. Section 6.1 says that 0, 2, 3, 7 and 9 never fail. */
+#define ORDER_TYPES "1311333131"
+#define CREDIT_CHECK "12t;> 32; /"
+#define BROKEN_CHECK "12t;>"
+#define PROCESS_PO "56t;> 7/"
+#define ORDER(check, fulfill) "0 " check "; 4; " fulfill "; 89; ;"
+
+/* The order is saved, and then billed, fulfilled and complete and not failed, or the other way round in all four. */
+#define PHI_O1 "0 85&9&2!& 8!5!&9!&2& | &"
+/* No credit reserved: none restored and none billed. Reserved: restored or billed, not both. */
+#define PHI_O2 "13!8!&| 1!38!&3!8&|| &"
+
+/* Section 6.2. 0 BookFlight, 1 CancelFlight, 2 RentCar, 3 CancelCar, 4 ReserveTrain, 5 ReserveHotel1, 6 ReserveHotel2, typed as there. */
+#define TRAVEL_TYPES "3131331"
+#define TRAVEL "01/ 23/ ; 4> 56> ;"
+
+/* "a or not a", which every set satisfies where no undo of a is paired; and 24 such with eight "not" after them, 127 bytes. */
+#define YES(a) #a #a "!|"
+#define YES_127                                                                                                                            \
+    YES(0) YES(1) "&" YES(2) "&" YES(3) "&" YES(4) "&" YES(5) "&" YES(6) "&" YES(7) "&" YES(8) "&" YES(9) "&"                               \
+    YES(0) "&" YES(1) "&" YES(2) "&" YES(3) "&" YES(4) "&" YES(5) "&" YES(6) "&" YES(7) "&" YES(8) "&" YES(9) "&"                           \
+    YES(0) "&" YES(1) "&" YES(2) "&" YES(3) "&" "!!!!!!!!"
+
+/* Ten actions side by side, each of which may do either and has "skip" as its handler: 39 nodes, each of the 1,024 sets under code 1. */
+#define EITHER_TEN "0s> 1s>| 2s>| 3s>| 4s>| 5s>| 6s>| 7s>| 8s>| 9s>|"
+
+/* Ten actions and "throw" side by side have every set under 4 and 5, since a side may fail or never begin. The handler "throw or skip"
+   brings these under 1 and 2 also, and beside it "skip, undone by throw or skip" adds 3 and 6. So each of the six families is full, 1,024
+   sets, with 16 leaves. Two of these side by side are 63 nodes, and the last node joins two full summaries to a full one. */
+#define FULL_HALF "01|2|3|4|5|6|7|8|9|t| ts+ > s ts+ / |"
+#define FULL FULL_HALF FULL_HALF "|"
+
+const struct named_case CASES[] = {
+    /* Examples 1 to 5: (Charge with undo Credit), then ProcessOrder; both of the first and third, or neither. Whole. */
+    {"SimpleOrder", "313", "01", "01/ 2;", "02& 0!2!& |"},
+
+    /* Section 2, with the trace there: 0 TakeMsg, 1 Preprocess, 2 SaveAcct, 3 LogErr, 4 Abort, 5 Commit. Its body is taken to be Preprocess,
+       then SaveAcct with the handler LogErr. The report gives no types: 1 and 2 may fail, the rest do not. Rule phi_q1. */
+    {"AcctRecv, q1", "133111", "", "0 1 23>; 4t;> ; 5;", "25& 2!4& |"},
+    /* The same, mended as the report says: LogErr throws again. Rule phi_q3, which is phi_q1 and phi_q2. */
+    {"AcctRecv mended, q3", "133111", "", "0 1 23t;>; 4t;> ; 5;", "25& 2!4& | 45!& 4!5& | &"},
+    /* Section 2, "Other Features": 0 TakeMsg, 1 SaveHdr, 2 DelHdr, 3 AddContact, 4 Abort, 5 Commit; 1 and 3 may fail. Whole. */
+    {"AcctRecv2", "131311", "12", "0 12/ 3; 4t;> ; 5;", "13&5& 1!3!&4& |"},
+
+    /* Section 6.1. Its iteration over the purchase orders is erased, by Theorem 5: one order. Rule phi_o1. */
+    {"OrderProcess, o1", ORDER_TYPES, "1357", ORDER(CREDIT_CHECK, PROCESS_PO), PHI_O1},
+    /* The same with phi_o2, for which the report takes out the pair of ReserveCredit. */
+    {"OrderProcess, o2", ORDER_TYPES, "57", ORDER(CREDIT_CHECK, PROCESS_PO), PHI_O2},
+    /* Section 6.1, without the undo of CreditCheck. The report's counterexample goes on to FulfillPO; the smallest set ends with SplitOrder, which
+       may fail too: SaveOrder and ReserveCredit, 3. */
+    {"BrokenOrder, o2", ORDER_TYPES, "57", ORDER(BROKEN_CHECK, PROCESS_PO), PHI_O2},
+    /* Section 6.1 with the iteration written out: five purchase orders side by side, on the same actions. 57 nodes. */
+    {"OrderProcess x5, o1", ORDER_TYPES, "1357",
+     ORDER(CREDIT_CHECK, PROCESS_PO PROCESS_PO "|" PROCESS_PO "|" PROCESS_PO "|" PROCESS_PO "|"), PHI_O1},
+
+    /* Section 6.2, whole, the handler's left being flight and car as its text says. phi_t1: travel and a hotel, or nothing at all. phi_t2: only one way to travel, and only one hotel. */
+    {"Travel, t1", TRAVEL_TYPES, "0123", TRAVEL, "02&4| 56| & 02|4|5|6|! |"},
+    {"Travel, t2", TRAVEL_TYPES, "0123", TRAVEL, "02&4!& 02&!4& | 56!& 5!6& | & 02|4|5|6|! |"},
+
+    /* Every set occurs and satisfies the rule. */
+    {"all sets", "3333333333", "", EITHER_TEN, YES(0)},
+    {"all sets, long rule", "3333333333", "", EITHER_TEN, YES_127},
+
+    /* Full families. The late rule is "not all ten", which the last set alone breaks. */
+    {"full families", "3333333333", "", FULL, YES(0)},
+    {"full, long rule", "3333333333", "", FULL, YES_127},
+    {"full, late set", "3333333333", "", FULL, "01&2&3&4&5&6&7&8&9& !"},
+};
+
+const unsigned CASE_COUNT = sizeof CASES / sizeof *CASES;
+
+static unsigned digits(const char *words, uint8_t *out)
+{
+    unsigned n = 0;
+    for (; words[n]; n++)
+        out[n] = words[n] - '0';
+    return n;
+}
+
+/* The nodes in the order of the words. */
+static int write_process(const char *words, struct plan *p)
+{
+    static const char composites[] = ";|+/>"; /* forms 3 to 7 */
+    unsigned stack[MOST_NODES], n = 0;
+    for (; *words; words++) {
+        const char *at = strchr(composites, *words);
+        if (*words == ' ')
+            continue;
+        if (p->node_count == MOST_NODES || (at && n < 2))
+            return 0;
+        if (at) {
+            n -= 2;
+            stack[n] = add_node(p, SEQUENCE + (at - composites), stack[n], stack[n + 1]);
+        } else if (*words == 's' || *words == 't')
+            stack[n] = add_node(p, *words == 's' ? SKIP : THROW, 0, 0);
+        else
+            stack[n] = add_action(p, *words - '0');
+        n++;
+    }
+    return n == 1;
+}
+
+static int write_rule(const char *words, struct plan *p)
+{
+    for (; *words; words++) {
+        uint8_t t = *words == '!' ? NOT : *words == '&' ? AND : *words == '|' ? OR : *words - '0';
+        if (*words == ' ')
+            continue;
+        if (p->rule_len == MOST_RULE)
+            return 0;
+        add_rule(p, &t, 1);
+    }
+    return 1;
+}
+
+int write_case(const struct named_case *c, struct plan_file *out)
+{
+    struct plan p = {0};
+    p.actions = digits(c->types, p.types);
+    p.pair_count = digits(c->pairs, p.pairs) / 2;
+    if (!write_process(c->process, &p) || !write_rule(c->rule, &p))
+        return 0;
+    write_plan(&p, out);
+    return 1;
+}

@@ -1,0 +1,39 @@
+/* Families of action sets: one bit for each of the 1,024 sets, in sixteen words. The low six actions say the bit, the high four the word. */
+#ifndef FAMILY_H
+#define FAMILY_H
+
+#include <stdint.h>
+
+enum { WORDS = 16, SETS = 1024 };
+
+/* A word in the lent work area, which may lie at any address. */
+typedef uint64_t word __attribute__((may_alias, aligned(1)));
+
+static inline int family_has(const word *f, unsigned set)
+{
+    return f[set / 64] >> set % 64 & 1;
+}
+
+static inline void family_insert(word *f, unsigned set)
+{
+    f[set / 64] |= 1ull << set % 64;
+}
+
+static inline void family_join(word *out, const word *f)
+{
+    for (unsigned i = 0; i < WORDS; i++)
+        out[i] |= f[i];
+}
+
+static inline unsigned family_size(const word *f)
+{
+    unsigned n = 0;
+    for (unsigned i = 0; i < WORDS; i++)
+        n += __builtin_popcountll(f[i]);
+    return n;
+}
+
+/* Joins to `out` the unions of a set of a and a set of b. */
+void family_join_product(word *out, const word *a, const word *b);
+
+#endif

@@ -1,0 +1,129 @@
+/* Random plans, good and damaged, and lent areas of any size: the proved verdict and the C one must answer the same, and leave the same in
+   every lent byte and in those past them. fuzz [COUNT [SEED]]; it ends with 1 at the first disagreement, which it prints. */
+#include <stdio.h>
+#include <stdlib.h>
+#include <string.h>
+
+#include "cases.h"
+#include "check.h"
+#include "verdict.h"
+
+typedef uint32_t verdict_fn(const uint8_t *, size_t, uint8_t *, size_t, uint8_t *, size_t);
+
+/* A file, and how much of the two areas is lent with it. */
+struct trial {
+    struct plan_file file;
+    size_t work_len, record_len;
+};
+
+static struct answer before, proved, plain;
+static unsigned long consistent, violated, refused[16];
+
+static void ask(verdict_fn *f, const struct trial *t, struct answer *a)
+{
+    memcpy(a, &before, sizeof before);
+    a->result = f(t->file.bytes, t->file.len, a->work, t->work_len, a->record, t->record_len);
+}
+
+static void print_hex(const char *what, const uint8_t *b, size_t n)
+{
+    printf("%s:", what);
+    for (size_t i = 0; i < n; i++)
+        printf(" %02x", b[i]);
+    putchar('\n');
+}
+
+static int report(const struct trial *t, const char *fault)
+{
+    printf("%s\nwork area %zu, record area %zu\nproved %x, C %x\n", fault, t->work_len, t->record_len, (unsigned)proved.result,
+           (unsigned)plain.result);
+    print_hex("file", t->file.bytes, t->file.len);
+    print_hex("record, proved", proved.record, RECORD_ROOM);
+    print_hex("record, C", plain.record, RECORD_ROOM);
+    for (size_t i = 0; i < WORK_ROOM; i++)
+        if (proved.work[i] != plain.work[i]) {
+            printf("work areas differ first at %zu: %02x, %02x\n", i, proved.work[i], plain.work[i]);
+            break;
+        }
+    return 1;
+}
+
+static int differ(const struct trial *t, uint64_t seed)
+{
+    const char *fault;
+    struct plan_file kept = t->file;
+    fill_areas(&before, seed);
+    ask(vodjimar_verdict, t, &proved);
+    if (memcmp(&kept, &t->file, sizeof kept))
+        return report(t, "proved: the file was changed");
+    ask(plain_verdict, t, &plain);
+    if (proved.result != plain.result)
+        return report(t, "the answers differ");
+    if (memcmp(proved.work, plain.work, WORK_ROOM))
+        return report(t, "the work areas differ");
+    if (memcmp(proved.record, plain.record, RECORD_ROOM))
+        return report(t, "the record areas differ");
+    fault = answer_fault(t->file.bytes, t->file.len, &before, &proved);
+    return fault ? report(t, fault) : 0;
+}
+
+static void count(uint32_t v)
+{
+    if (v == CONSISTENT)
+        consistent++;
+    else if (v < REFUSED)
+        violated++;
+    else
+        refused[(v - REFUSED) % 16]++;
+}
+
+/* Most areas are large enough, to the byte or with room to spare; some are not, mostly by one byte. */
+static size_t random_length(uint64_t *state, size_t need, size_t room)
+{
+    switch (below(state, 40)) {
+    case 0:
+        return need - 1;
+    case 1:
+        return below(state, (unsigned)need);
+    default:
+        return below(state, 2) ? need : need + below(state, (unsigned)(room - need) + 1);
+    }
+}
+
+static void random_trial(uint64_t *state, struct trial *t)
+{
+    random_plan(state, &t->file);
+    if (below(state, 5) < 2)
+        for (unsigned k = 1 + below(state, 2); k > 0; k--)
+            damage(state, &t->file);
+    t->work_len = random_length(state, WORK, WORK_ROOM);
+    t->record_len = random_length(state, RECORD, RECORD_ROOM);
+}
+
+int main(int argc, char **argv)
+{
+    unsigned long total = argc > 1 ? strtoul(argv[1], 0, 10) : 20000;
+    uint64_t seed = argc > 2 ? strtoull(argv[2], 0, 10) : 1, state = seed;
+    struct trial t = {.work_len = WORK_ROOM, .record_len = RECORD_ROOM};
+
+    for (unsigned k = 0; k < CASE_COUNT; k++)
+        if (!write_case(&CASES[k], &t.file) || differ(&t, k)) {
+            printf("at the case %s\n", CASES[k].name);
+            return 1;
+        }
+    for (unsigned long i = 0; i < total; i++) {
+        random_trial(&state, &t);
+        if (differ(&t, i)) {
+            printf("at plan %lu of seed %llu\n", i, (unsigned long long)seed);
+            return 1;
+        }
+        count(plain.result);
+    }
+    printf("%lu random plans, seed %llu, and %u named ones: no disagreement\nconsistent %lu, violated %lu, refused by number:", total,
+           (unsigned long long)seed, CASE_COUNT, consistent, violated);
+    for (unsigned n = 0; n < 16; n++)
+        if (refused[n])
+            printf(" %u: %lu", n, refused[n]);
+    putchar('\n');
+    return 0;
+}

@@ -1,0 +1,37 @@
+/* Plan files: building one part by part, random ones, and damage. */
+#ifndef PLANS_H
+#define PLANS_H
+
+#include "reader.h"
+
+/* The bytes of a file, which may be longer than any plan's. */
+struct plan_file {
+    uint8_t bytes[512];
+    size_t len;
+};
+
+/* The parts of a plan that is being built. */
+struct plan {
+    uint8_t types[MOST_ACTIONS], pairs[2 * MOST_PAIRS], nodes[3 * MOST_NODES], rule[MOST_RULE];
+    unsigned actions, pair_count, node_count, rule_len;
+};
+
+/* Each adds one thing. Those of nodes give the new node's number. */
+void add_pair(struct plan *p, unsigned action, unsigned undo);
+unsigned add_node(struct plan *p, unsigned form, unsigned left, unsigned right);
+unsigned add_action(struct plan *p, unsigned action);
+void add_rule(struct plan *p, const uint8_t *bytes, unsigned len);
+
+void write_plan(const struct plan *p, struct plan_file *out);
+
+/* A sequence of numbers that its seed determines. */
+uint64_t next_random(uint64_t *state);
+unsigned below(uint64_t *state, unsigned n);
+
+/* A plan that no check refuses: 1 to 10 actions, 1 to 32 leaves, all forms, nodes in any order that the file permits. */
+void random_plan(uint64_t *state, struct plan_file *out);
+
+/* Changes a file in one place: a byte changed, cut, extended, a length moved, and so on. Most are then refused, not all. */
+void damage(uint64_t *state, struct plan_file *f);
+
+#endif

@@ -1,0 +1,22 @@
+/* A plan file, read: where its four bodies lie. */
+#ifndef READER_H
+#define READER_H
+
+#include <stddef.h>
+#include <stdint.h>
+
+enum { MOST_ACTIONS = 10, MOST_PAIRS = 9, MOST_NODES = 63, MOST_RULE = 127, MOST_FILE = 360 };
+
+enum { ACTION, SKIP, THROW, SEQUENCE, PARALLEL, CHOICE, COMPENSATION, HANDLER };
+
+enum { NOT = 0x80, AND = 0x81, OR = 0x82 };
+
+struct layout {
+    const uint8_t *types, *pairs, *nodes, *rule;
+    unsigned actions, pair_count, node_count, rule_len;
+};
+
+/* 0 and the layout, or the number by which the file is refused. */
+unsigned read_plan(const uint8_t *file, size_t len, struct layout *out);
+
+#endif

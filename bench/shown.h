@@ -1,0 +1,10 @@
+/* The run that a verdict shows. */
+#ifndef SHOWN_H
+#define SHOWN_H
+
+#include "summary.h"
+
+/* Writes to `record`, 126 bytes that are 0, a complete run that leaves the set, which is one of the plan's sets. */
+void show_run(const struct layout *p, const struct summaries *s, unsigned set, uint8_t *record);
+
+#endif

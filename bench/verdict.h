@@ -1,0 +1,19 @@
+/* The verdict on a plan, in plain C: the same method and the same answers as the proved function. */
+#ifndef VERDICT_H
+#define VERDICT_H
+
+#include <stddef.h>
+#include <stdint.h>
+
+enum { WORK = 65536, RECORD = 126 };
+
+/* An answer: 0 is consistent, VIOLATED + the set, REFUSED + the number. */
+enum { CONSISTENT = 0, VIOLATED = 0x10000, REFUSED = 0x20000 };
+
+/* The one written by hand. */
+uint32_t plain_verdict(const uint8_t *file, size_t file_len, uint8_t *work, size_t work_len, uint8_t *record, size_t record_len);
+
+/* The proved one, from the static library. */
+uint32_t vodjimar_verdict(const uint8_t *file, size_t file_len, uint8_t *work, size_t work_len, uint8_t *record, size_t record_len);
+
+#endif
