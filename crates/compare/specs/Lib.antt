@@ -1,3 +1,2 @@
-pub mod Tally
-pub mod Files
-pub mod Runs
+pub mod Data
+pub mod Count

@@ -1,8 +1,7 @@
 // The parts of a data file, read one after the other.
-ghost use mathlib.Core.Path.{_≡_};
-ghost use Prim.Native.Nat.{_+_, _≤_};
 ghost use lib.ListN.{length};
-ghost use Rattle.io.specs.Counts.{Counts};
+ghost use Rattle.vectors.specs.Number.{FourOrCut};
+ghost use Rattle.compare.specs.Data.{Takes};
 
 // Bytes at the start of a buffer, and whether they are all that were asked for.
 pub struct Taken {
@@ -10,9 +9,9 @@ pub struct Taken {
     pub whole: bool,
 }
 
-// The next `n` bytes.
+// The next `n` bytes, where the buffer has room for them.
 pub fn take(fd: i32, buf: &mut [u8], n: u64) -> Taken
-    ensures { λ r. ⌜ Counts (r .count) (now (buf .exit)) ⌝ }
+    ensures { λ r. ⌜ Takes n (length (now (buf .entry))) (now (buf .exit)) r ⌝ }
 {
     let n = n as usize;
     if buf.len() < n {
@@ -28,27 +27,13 @@ pub fn take(fd: i32, buf: &mut [u8], n: u64) -> Taken
     }
 }
 
-pub fn wide(x: u8) -> u64
-    ensures { λ r. ⌜ r ≡ x ⌝ }
+// The next number of four bytes. Where they are cut short, it is more than four bytes hold, and no buffer has room for so many.
+pub fn number(fd: i32) -> u64
+    ensures { λ r. ⌜ FourOrCut r ⌝ }
 {
-    x as u64
-}
-
-// The next number of four bytes. Where they are cut short, it is more than a data file ever has.
-pub fn number(fd: i32) -> u64 {
     let mut b = [0u8; 4];
     let got = input::fill(fd, &mut b);
-    if got.count < 4 {
-        return u64::MAX;
-    }
-    four_at(&b, 0)
-}
-
-// The number of the four bytes at `at`, the lowest first.
-pub fn four_at(s: &[u8], at: usize) -> u64
-    requires { ⌜ at + 4 ≤ length (now s) ⌝ }
-{
-    wide(s[at]) | wide(s[at + 1]) << 8 | wide(s[at + 2]) << 16 | wide(s[at + 3]) << 24
+    vectors::number::four_of(&b, got.count)
 }
 
 // Whether nothing is left.

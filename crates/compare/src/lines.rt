@@ -1,6 +1,6 @@
 // The lines that the program writes.
-use crate::tally::Tally;
 use libc::STDOUT_FILENO;
+use vectors::tally::Tally;
 
 fn put(text: &[u8]) {
     io::write_all(STDOUT_FILENO, text);

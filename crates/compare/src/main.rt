@@ -2,34 +2,20 @@
 // The first vector of a group that differs has a line of its own, above that of the counts.
 //
 // A data file is the number of its vectors, then the vectors. A vector is the length of its name, the length of its body, the name, and
-// the body. These numbers have four bytes each, the lowest first. What a body holds is its group's to say, in the file of the group's name.
+// the body. These numbers have four bytes each, the lowest first. What a body holds is its group's to say, in the crate `vectors`.
 // docs/VECTORS.md says what the vectors are and how they are made.
 mod data;
-mod files;
 mod lines;
-mod runs;
-mod tally;
 
-ghost use Prim.Native.Nat.{_≤_};
-use tally::Outcome;
-use tally::Tally;
+ghost use Rattle.compare.specs.Count.{CountsVectors};
+use vectors::Group;
+use vectors::tally::Outcome;
+use vectors::tally::Tally;
 
 // The longest name and the longest body that a vector may have.
 const NAME_ROOM: usize = 64;
 
 const BODY_ROOM: usize = 66000;
-
-pub enum Group {
-    Files,
-    Runs,
-}
-
-fn compare(group: Group, body: &[u8]) -> Outcome {
-    match group {
-        Group::Files => files::compare(body),
-        Group::Runs => runs::compare(body),
-    }
-}
 
 // Reads and compares the next vector, and writes the line of one that differs where it is the first.
 fn vector(fd: i32, group: Group, title: &[u8], number: u64, is_first: bool) -> Outcome {
@@ -44,7 +30,7 @@ fn vector(fd: i32, group: Group, title: &[u8], number: u64, is_first: bool) -> O
     }
     let m = named.count;
     let n = filled.count;
-    let outcome = compare(group, &body[..n]);
+    let outcome = vectors::compare(group, &body[..n]);
     if let Outcome::Differs { expected, found } = outcome {
         if is_first {
             lines::difference(title, number, &name[..m], expected, found);
@@ -55,7 +41,7 @@ fn vector(fd: i32, group: Group, title: &[u8], number: u64, is_first: bool) -> O
 
 // Compares `count` vectors, or those before the first that is not whole.
 fn vectors(fd: i32, group: Group, title: &[u8], count: u64) -> Tally
-    ensures { λ r. ⌜ r .agree ≤ r .vectors ⌝ }
+    ensures { λ r. ⌜ CountsVectors count r ⌝ }
 {
     let mut tally = Tally {
         vectors: 0,
@@ -67,7 +53,7 @@ fn vectors(fd: i32, group: Group, title: &[u8], count: u64) -> Tally
         left -= 1;
         let is_first = tally.agree == tally.vectors;
         let outcome = vector(fd, group, title, tally.vectors + 1, is_first);
-        tally = tally::counted(tally, outcome);
+        tally = vectors::tally::counted(tally, outcome);
     }
     tally
 }

@@ -3,15 +3,26 @@
 use mathlib.Core.Bool.{true}
 use mathlib.Core.List.{List}
 use mathlib.Core.Path.{_≡_}
-use Prim.Native.Nat.{ℕ, _≤_, _<_}
+use Prim.Native.Nat.{ℕ, _-_, _≤_, _<_}
 use lib.IntN.{ℤ, pos}
 use lib.Signed.{ltZ}
+use Rattle.libc.specs.Io.{Moved}
 use Rattle.io.specs.Counts.{Counts, clamped}
 use Rattle.input.specs.declared.Filled.{Filled}
 
 -- the answer to a read into `room` bytes: a read that failed has put none there
 abbrev pub answerOf : ℤ → ℕ → Filled
 answerOf got room = record { count = clamped got room; failed = ltZ got (pos 0) }
+
+-- One read into `room` bytes: one answer of the call says both how many came and whether it failed.
+pub record OneRead (room : ℕ) (r : Filled) : Type 0 where
+  pub got : ℤ
+  -- as many as came, at most `room`, or -1
+  pub moved : Moved room got
+  pub is : r ≡ answerOf got room
+  -- what follows of the two fields
+  pub most : r .count ≤ room
+  pub none : r .failed ≡ true → r .count ≡ 0
 
 -- `n` bytes were asked for, and `buffer` is what the buffer holds now
 pub record Gives (n : ℕ) (buffer : List ℕ) (r : Filled) : Type 0 where
@@ -20,3 +31,5 @@ pub record Gives (n : ℕ) (buffer : List ℕ) (r : Filled) : Type 0 where
   pub most : r .count ≤ n
   -- where all are there, nothing has failed
   pub short : r .failed ≡ true → r .count < n
+  -- where some are not there, the last read gave nothing, and whether it failed is told
+  pub last : r .count < n → OneRead (n - r .count) (record { count = 0; failed = r .failed })

@@ -1,9 +1,9 @@
 // Reading from an open descriptor into a lent buffer, where a read that fails is told from the end of the input.
 ghost use mathlib.Core.Path.{_≡_};
-ghost use Prim.Native.Nat.{_+_, _≤_};
+ghost use Prim.Native.Nat.{_-_, _≤_};
 ghost use lib.ListN.{length};
 ghost use Rattle.io.specs.Counts.{Counts};
-ghost use Rattle.input.specs.Answer.{answerOf, Gives};
+ghost use Rattle.input.specs.Answer.{answerOf, OneRead, Gives};
 
 // What reading gave: how many bytes stand at the start of the buffer, and whether a read failed after them
 // (`os::fail` then says why).
@@ -26,7 +26,7 @@ fn answered(got: isize, buf: &[u8]) -> Filled
 
 // One read: it gives what has come, as soon as anything has, and nothing where the input has ended.
 pub fn read_some(fd: i32, buf: &mut [u8]) -> Filled
-    ensures { λ r. ⌜ r .count ≤ length (now (buf .entry)) ⌝ }
+    ensures { λ r. ⌜ OneRead (length (now (buf .entry))) r ⌝ }
     ensures { λ r. ⌜ Counts (r .count) (now (buf .exit)) ⌝ }
 {
     let got = libc::read(fd, buf);
@@ -36,7 +36,7 @@ pub fn read_some(fd: i32, buf: &mut [u8]) -> Filled
 // One read into the bytes from `done` on, up to `n`.
 fn read_after(fd: i32, buf: &mut [u8], done: usize, n: usize) -> Filled
     requires { ⌜ (done ≤ n) × (n ≤ length (now buf)) ⌝ }
-    ensures { λ r. ⌜ done + r .count ≤ n ⌝ }
+    ensures { λ r. ⌜ OneRead (n - done) r ⌝ }
 {
     read_some(fd, &mut buf[done..n])
 }

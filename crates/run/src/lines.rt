@@ -1,21 +1,18 @@
 // The lines that the program writes. Each function answers whether they were taken.
-ghost use Prim.Native.Nat.{_<_};
-use crate::session::Say;
 use job::Answer;
 use job::End;
 use job::Status;
 use job::Told;
 use libc::STDOUT_FILENO;
+use session::Say;
 
 fn put(text: &[u8]) -> bool {
     io::write_all(STDOUT_FILENO, text)
 }
 
 // A blank and the leaf, where its bit is set.
-fn put_leaf(next: u64, leaf: u64) -> bool
-    requires { ⌜ leaf < 64 ⌝ }
-{
-    if (next >> leaf) % 2 == 1 {
+fn put_leaf(next: u64, leaf: u64) -> bool {
+    if session::comes_next(next, leaf) {
         return put(b" ") && io::print_decimal(STDOUT_FILENO, leaf);
     }
     true

@@ -8,13 +8,11 @@
 // digits 0 to 9, with no sign and no zero before another digit. So a line that is an entry has at most seven bytes, but a line may have any length.
 // A line that is no entry, an empty one too, gets `not an entry`, and the session goes on. A newline ends a line, and so does the end of the input
 // where bytes of a line have come before it.
-mod line;
 mod lines;
-mod session;
 
 ghost use mathlib.Core.Bool.{true};
 ghost use mathlib.Core.Path.{_≡_};
-ghost use Rattle.run.specs.Session.{heardAll};
+ghost use Rattle.session.specs.Session.{heardAll};
 use job::Answer;
 use job::Job;
 use libc::STDERR_FILENO;

@@ -1,29 +1,36 @@
--- `compare::vectors` ends, and counts no more agreements than vectors. The measure is the number of vectors that are left; the invariant: those
--- counted and those left are no more than the data file says it has.
+-- `compare::vectors` meets its contract, and ends. The measure is the number of vectors that are left; the invariant: those counted and those
+-- left are no more than the data file says it has, and just as many while none is damaged.
+use mathlib.Core.Bool.{true, true≢false}
+use mathlib.Core.Path.{_≡_, refl, sym, _∙_}
 use Prim.Native.Nat.{_+_, _≤_}
 use borrow.Author.Needs.{needs}
 use native.Mathlib.Omega.{arith}
-use Rattle.compare.specs.Tally.{countedOf}
-use Rattle.compare.specs.declared.tally.Outcome.{Outcome}
-use Rattle.compare.specs.declared.tally.Outcome.the-variants.{Agrees, Differs, Damaged}
-use Rattle.compare.specs.declared.tally.Tally.{Tally}
+use Rattle.vectors.specs.Tally.{countedOf}
+use Rattle.vectors.specs.declared.tally.Outcome.{Outcome}
+use Rattle.vectors.specs.declared.tally.Outcome.the-variants.{Agrees, Differs, Damaged}
+use Rattle.vectors.specs.declared.tally.Tally.{Tally}
 use Rattle.compare.proofs.vectors.Statement.{statement}
 use Rattle.compare.proofs.vectors.Tie as tie
 
--- one vector more keeps the agreements within the vectors
-more : (t : Tally) (o : Outcome) → t .agree ≤ t .vectors → (countedOf t o .agree ≤ countedOf t o .vectors) × (countedOf t o .vectors ≤ t .vectors + 1)
-more t Agrees h = omega arith
-more t (Differs e f) h = omega arith
-more t Damaged h = omega arith
+-- one vector more keeps the agreements within the vectors, and where it is whole it is counted
+record More (t u : Tally) : Type 0 where
+  agreements : u .agree ≤ u .vectors
+  most : u .vectors ≤ t .vectors + 1
+  counted : u .whole ≡ true → u .vectors ≡ t .vectors + 1
+
+more : (t : Tally) (o : Outcome) → t .agree ≤ t .vectors → More t (countedOf t o)
+more t Agrees h = record { agreements = omega arith; most = omega arith; counted = λ e. refl }
+more t (Differs x y) h = record { agreements = omega arith; most = omega arith; counted = λ e. refl }
+more t Damaged h = record { agreements = omega arith; most = omega arith; counted = λ e. absurd (true≢false (sym e)) }
 
 abbrev Inv-loop : tie.InvT-loop
-Inv-loop fd group title count tally₀ left₀ tally left = (tally .agree ≤ tally .vectors) × (tally .vectors + left ≤ count)
+Inv-loop fd group title count tally₀ left₀ tally left = (tally .agree ≤ tally .vectors) × (tally .vectors + left ≤ count) × (tally .whole ≡ true → tally .vectors + left ≡ count)
 
 abbrev μ-loop : tie.MeasureT-loop
 μ-loop fd group title count tally₀ left₀ tally left = left
 
 loop-holds : tie.Need-loop-holds Inv-loop μ-loop
-loop-holds c = omega arith
+loop-holds c = (omega arith, omega arith, λ e. omega arith)
 
 sub-left : tie.Need-sub-left Inv-loop μ-loop
 sub-left c = omega arith
@@ -42,15 +49,17 @@ loop-less c = omega arith
 
 loop-again : tie.Need-loop-again Inv-loop μ-loop
 loop-again c =
-    let t = c .before .before .before .before .before .before .loop .tally in
-    let o = c .before .vector .result in
-    rw (c .counted .ensures) (omega (arith, more t o (c .before .before .before .before .before .before .loop .inv .0)))
+    let k = c .before .before .before .before in
+    let l = k .before .before .loop in
+    let m = more (l .tally) (c .before .vector .result) (l .inv .0) in
+    let all = l .inv .2 (k .if1 .taken) in
+    rw (c .counted .ensures) (omega (arith, m .agreements), omega (arith, m .most), λ e. omega (arith, m .counted e))
 
 returns : tie.Need-returns Inv-loop μ-loop
-returns c = omega arith
+returns c = record { agreements = omega arith; most = omega arith; all = λ e. absurd (true≢false (sym e ∙ c .if1 .left)) }
 
 returns-2 : tie.Need-returns-2 Inv-loop μ-loop
-returns-2 c = omega arith
+returns-2 c = record { agreements = omega arith; most = omega arith; all = λ e. omega (arith, c .before .loop .inv .2 e) }
 
 pub vectors-spec : {M : Type 1} → statement M
 vectors-spec =

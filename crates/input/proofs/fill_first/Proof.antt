@@ -1,14 +1,20 @@
 -- `input::fill_first` meets its contract. The loop's invariant: the bytes read are at most n, and the buffer keeps its length.
 -- The measure is what is left of n.
 use mathlib.Core.Bool.{true≢false}
-use mathlib.Core.Path.{_≡_, sym}
-use Prim.Native.Nat.{_≤_, _-_}
+use mathlib.Core.Path.{_≡_, sym, subst}
+use Prim.Native.Nat.{ℕ, _≤_, _-_}
 use native.Mathlib.Omega.{arith}
 use lib.ListN.{length}
 use borrow.Author.Needs.{needs}
 use Rattle.io.proofs.Counting.{counts}
+use Rattle.input.specs.Answer.{OneRead}
+use Rattle.input.specs.declared.Filled.{Filled}
 use Rattle.input.proofs.fill_first.Statement.{statement}
 use Rattle.input.proofs.fill_first.Tie as tie
+
+-- a read that gave nothing
+nothing : (room : ℕ) (r : Filled) → OneRead room r → r .count ≡ 0 → OneRead room (record { count = 0; failed = r .failed })
+nothing room r h e = subst (λ (n : ℕ). OneRead room (record { count = n; failed = r .failed })) e h
 
 abbrev Inv-loop : tie.InvT-loop
 Inv-loop fd buf₀ n done₀ buf done = (done ≤ n) × (length buf ≡ length buf₀)
@@ -26,7 +32,9 @@ same-length : tie.Need-same-length Inv-loop μ-loop
 same-length c = search needs
 
 returns : tie.Need-returns Inv-loop μ-loop
-returns c = record { within = counts _ _ (omega arith); most = omega arith; short = λ h. omega arith }
+returns c =
+    let one = c .before .before .before .before .read-after in
+    record { within = counts _ _ (omega arith); most = omega arith; short = λ h. omega arith; last = λ h. nothing _ (one .result) (one .ensures) (c .if1 .taken) }
 
 add-done : tie.Need-add-done Inv-loop μ-loop
 add-done c = omega arith
@@ -41,7 +49,7 @@ same-length-2 : tie.Need-same-length-2 Inv-loop μ-loop
 same-length-2 c = search needs
 
 returns-2 : tie.Need-returns-2 Inv-loop μ-loop
-returns-2 c = record { within = counts _ _ (omega arith); most = omega arith; short = λ h. absurd (true≢false (sym h)) }
+returns-2 c = record { within = counts _ _ (omega arith); most = omega arith; short = λ h. absurd (true≢false (sym h)); last = λ h. absurd (omega arith) }
 
 pub fill-first-spec : {M : Type 1} → statement M
 fill-first-spec =

@@ -5,8 +5,8 @@ use Prim.Native.Nat.{_-_, _≤_}
 use native.Mathlib.Omega.{arith}
 use lib.ListN.{length, getD, drop}
 use borrow.Author.Needs.{needs}
-use Rattle.run.specs.Session.{heardByte, heardAll}
-use Rattle.run.proofs.Heard.{heard-step, heard-end}
+use Rattle.session.specs.Session.{heardByte, heardAll}
+use Rattle.session.proofs.Hearing.{heard-step, heard-end}
 use Rattle.run.proofs.piece.Statement.{statement}
 use Rattle.run.proofs.piece.Tie as tie
 

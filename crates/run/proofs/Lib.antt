@@ -1,3 +1,0 @@
-pub mod Heard
-pub mod Numbers
-pub mod Entries

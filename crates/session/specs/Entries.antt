@@ -1,0 +1,30 @@
+-- Which lines are read as entries: a line is read as an entry exactly where it is leaf and outcome in decimal with one blank between them.
+-- Read byte by byte, by Line.antt's definitions, it comes to this.
+use mathlib.Core.List.{List, [], _∷_, _++_}
+use mathlib.Core.Path.{_≡_}
+use Prim.Native.Nat.{ℕ, _+_, _*_, _≤_, _<_}
+use Rattle.state.specs.declared.Entry.{Entry}
+use Rattle.session.specs.Line.{freshLine, lineOf, entryIn}
+use Rattle.session.specs.declared.line.Found.the-variants as found
+
+-- A number in decimal: a digit d is the byte 48 + d, and there is no zero before another digit.
+pub data Decimal : ℕ → List ℕ → Type 0 where
+  digit : {n : ℕ} {text : List ℕ} → n < 10 → text ≡ (48 + n) ∷ [] → Decimal n text
+  more : {n : ℕ} {text : List ℕ} (m d : ℕ) (before : List ℕ) → 0 < m → d < 10 → Decimal m before
+      → n ≡ 10 * m + d → text ≡ before ++ ((48 + d) ∷ []) → Decimal n text
+
+-- The text of an entry: two numbers that fit a byte, with one blank (32) between them.
+pub record EntryText (e : Entry) (line : List ℕ) : Type 0 where
+  pub leaf-text : List ℕ
+  pub outcome-text : List ℕ
+  pub leaf-decimal : Decimal (e .leaf) leaf-text
+  pub leaf-fits : e .leaf ≤ 255
+  pub outcome-decimal : Decimal (e .outcome) outcome-text
+  pub outcome-fits : e .outcome ≤ 255
+  pub parted : line ≡ leaf-text ++ (32 ∷ outcome-text)
+
+pub record ReadsEntries : Type 0 where
+  -- nothing that is not an entry is taken as one
+  pub only : (line : List ℕ) (e : Entry) → entryIn (lineOf freshLine line) ≡ found.Entry e → EntryText e line
+  -- and each entry is
+  pub each : (line : List ℕ) (e : Entry) → EntryText e line → entryIn (lineOf freshLine line) ≡ found.Entry e

@@ -1,0 +1,62 @@
+-- What is said to the bytes of the input, one after the other: a newline ends a line, and each line is answered once, in its turn.
+-- The answer to an entry is the runner's own, and the job that it hands back goes on.
+use mathlib.Core.Bool.{Bool, false, cond}
+use mathlib.Core.List.{List, [], _∷_}
+use mathlib.Core.Path.{_≡_}
+use Prim.Native.Nat.{ℕ, _/_, _%_, _^_}
+use lib.Dec.{eqb}
+use Rattle.job.specs.Job.{takeOf}
+use Rattle.state.specs.declared.Entry.{Entry}
+use Rattle.job.specs.declared.Job.{Job}
+use Rattle.session.specs.Line.{freshLine, lineAfter, lineOf, begun, entryIn}
+use Rattle.session.specs.declared.line.Found.{Found}
+use Rattle.session.specs.declared.line.Found.the-variants as found
+use Rattle.session.specs.declared.Session.{Session}
+use Rattle.session.specs.declared.Say.the-variants.{Nothing, NotAnEntry, Answer}
+use Rattle.session.specs.declared.Heard.{Heard}
+
+-- The session at the start of a line.
+abbrev pub nextLine : Job → Session
+nextLine j = record { job = j; line = freshLine }
+
+abbrev pub silent : Session → Heard
+silent s = record { say = Nothing; session = s }
+
+-- An entry goes to the job.
+abbrev pub heardEntry : Job → Entry → Heard
+heardEntry j e = record { say = Answer (takeOf j e .answer); session = nextLine (takeOf j e .job) }
+
+abbrev pub answeredTo : Job → Found → Heard
+answeredTo j (found.Entry e) = heardEntry j e
+answeredTo j found.NotAnEntry = record { say = NotAnEntry; session = nextLine j }
+
+-- The line that has come is whole.
+abbrev pub answered : Session → Heard
+answered s = answeredTo (s .job) (entryIn (s .line))
+
+-- One byte of input: a newline is 10.
+abbrev pub heardByte : Session → ℕ → Heard
+heardByte s b = cond (eqb b 10) (answered s) (silent (record { job = s .job; line = lineAfter (s .line) b }))
+
+-- The session after some bytes of input.
+unfoldable pub heardAll : Session → List ℕ → Session
+heardAll s [] = s
+heardAll s (b ∷ bs) = heardAll (heardByte s b .session) bs
+
+-- The end of the input: it ends a line of which a byte has come.
+abbrev pub heardEnd : Session → Heard
+heardEnd s = cond (begun (s .line)) (answered s) (silent s)
+
+-- Leaf n may come next where bit n is set in what is told.
+abbrev pub comesNext : ℕ → ℕ → Bool
+comesNext next leaf = eqb (next / 2 ^ leaf % 2) 1
+
+-- No byte of it is a newline.
+abbrev pub OneLine : List ℕ → Type 0
+OneLine [] = Unit {0}
+OneLine (b ∷ bs) = (eqb b 10 ≡ false) × OneLine bs
+
+-- A line and its newline, from the start of a line on: nothing is said before the newline, and then what the line as a whole is answered.
+pub record AnswersLines : Type 0 where
+  pub quiet : (j : Job) (line : List ℕ) (b : ℕ) → eqb b 10 ≡ false → heardByte (heardAll (nextLine j) line) b .say ≡ Nothing
+  pub answer : (j : Job) (line : List ℕ) → OneLine line → heardByte (heardAll (nextLine j) line) 10 ≡ answeredTo j (entryIn (lineOf freshLine line))

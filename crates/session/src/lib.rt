@@ -1,0 +1,110 @@
+// A session: a job, and the line that is coming in. Each byte of input is heard, and at the end of a line there is something to say.
+ghost use mathlib.Core.Path.{_≡_};
+ghost use Rattle.session.specs.Session.{nextLine, silent, heardEntry, answered, heardByte, heardEnd, comesNext};
+use job::Answer;
+use job::Job;
+use line::Found;
+use line::Line;
+use state::Entry;
+
+pub mod line;
+
+pub struct Session {
+    pub job: Job,
+    pub line: Line,
+}
+
+pub enum Say {
+    Nothing,
+    NotAnEntry,
+    Answer(Answer),
+}
+
+pub struct Heard {
+    pub say: Say,
+    pub session: Session,
+}
+
+// The session at the start of a line.
+pub fn next_line(job: Job) -> Session
+    ensures { λ r. ⌜ r ≡ nextLine job ⌝ }
+{
+    Session {
+        job,
+        line: line::fresh(),
+    }
+}
+
+// Nothing is to be said.
+fn keep(session: Session) -> Heard
+    ensures { λ r. ⌜ r ≡ silent session ⌝ }
+{
+    Heard {
+        say: Say::Nothing,
+        session,
+    }
+}
+
+// An entry goes to the job.
+fn hear_entry(job: Job, e: Entry) -> Heard
+    ensures { λ r. ⌜ r ≡ heardEntry job e ⌝ }
+{
+    let taken = job.take(e);
+    let answer = taken.answer;
+    let next = taken.job;
+    Heard {
+        say: Say::Answer(answer),
+        session: next_line(next),
+    }
+}
+
+// The line that has come is whole.
+fn answer(session: Session) -> Heard
+    ensures { λ r. ⌜ r ≡ answered session ⌝ }
+{
+    let job = session.job;
+    let line = session.line;
+    match line::entry_of(line) {
+        Found::Entry(e) => hear_entry(job, e),
+        Found::NotAnEntry => Heard {
+            say: Say::NotAnEntry,
+            session: next_line(job),
+        },
+    }
+}
+
+// One byte of input.
+pub fn hear(session: Session, b: u8) -> Heard
+    ensures { λ r. ⌜ r ≡ heardByte session b ⌝ }
+{
+    if b == 10 {
+        return answer(session);
+    }
+    let job = session.job;
+    let line = session.line;
+    keep(Session {
+        job,
+        line: line::after(line, b),
+    })
+}
+
+// The end of the input: it ends a line of which a byte has come.
+pub fn hear_end(session: Session) -> Heard
+    ensures { λ r. ⌜ r ≡ heardEnd session ⌝ }
+{
+    let line = session.line;
+    if line::has_begun(line) {
+        return answer(session);
+    }
+    keep(session)
+}
+
+// Whether the leaf is among those that may come next, whose bits are set in `next`.
+pub fn comes_next(next: u64, leaf: u64) -> bool
+    ensures { λ r. ⌜ r ≡ comesNext next leaf ⌝ }
+{
+    if leaf >= 64 {
+        return false;
+    }
+    (next >> leaf) % 2 == 1
+}

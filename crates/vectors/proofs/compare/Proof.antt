@@ -1,0 +1,27 @@
+-- `vectors::compare` meets its contract, row by row.
+use borrow.Author.Needs.{needs}
+use Rattle.vectors.proofs.compare.Statement.{statement}
+use Rattle.vectors.proofs.compare.Tie as tie
+
+enum-told : tie.Need-enum-told
+enum-told c = search needs
+
+compare-requires : tie.Need-compare-requires
+compare-requires c κs = search needs
+
+enum-told-2 : tie.Need-enum-told-2
+enum-told-2 c = search needs
+
+compare-requires-2 : tie.Need-compare-requires-2
+compare-requires-2 c κs = search needs
+
+returns : tie.Need-returns
+returns c = rw (c .before .enum-told .given .1) (c .compare .ensures)
+
+returns-2 : tie.Need-returns-2
+returns-2 c = rw (c .before .enum-told2 .given .1) (c .compare2 .ensures)
+
+pub compare-spec : {M : Type 1} → statement M
+compare-spec =
+    tie.close
+    (tie.spec enum-told compare-requires enum-told-2 compare-requires-2 returns returns-2)

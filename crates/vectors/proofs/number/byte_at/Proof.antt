@@ -1,0 +1,22 @@
+-- `vectors::number::byte_at` meets its contract: past the end there is no byte.
+use mathlib.Core.Path.{sym}
+use native.Mathlib.Omega.{arith}
+use lib.ListN.{List·getD-eq-default}
+use borrow.Author.Needs.{needs}
+use Rattle.vectors.proofs.number.byte_at.Statement.{statement}
+use Rattle.vectors.proofs.number.byte_at.Tie as tie
+
+returns : tie.Need-returns
+returns c = (sym (List·getD-eq-default (c .before .before .args .s .now) 0 (c .if1 .taken)), omega arith)
+
+shared-slice-read-wide : tie.Need-shared-slice-read-wide
+shared-slice-read-wide c = search needs
+
+wide-requires : tie.Need-wide-requires
+wide-requires c κs = search needs
+
+returns-2 : tie.Need-returns-2
+returns-2 c = search needs
+
+pub byte-at-spec : {M : Type 1} → statement M
+byte-at-spec = tie.close (tie.spec returns shared-slice-read-wide wide-requires returns-2)

@@ -1,0 +1,13 @@
+-- `vectors::tally::held` meets its contract: each return by the test that led there.
+use borrow.Author.Tests.{eq-eqb, ne-eqb}
+use Rattle.vectors.proofs.tally.held.Statement.{statement}
+use Rattle.vectors.proofs.tally.held.Tie as tie
+
+returns : tie.Need-returns
+returns c = simp (eq-eqb _ _ (c .if1 .taken))
+
+returns-2 : tie.Need-returns-2
+returns-2 c = simp (ne-eqb _ _ (c .if1 .left))
+
+pub held-spec : {M : Type 1} → statement M
+held-spec = tie.close (tie.spec returns returns-2)

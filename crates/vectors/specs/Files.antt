@@ -1,0 +1,14 @@
+-- What a vector of the group `files` comes to: the number that it expects is held against document 01's number for its file.
+use mathlib.Core.Bool.{cond}
+use mathlib.Core.List.{List}
+use Prim.Native.Nat.{ℕ}
+use lib.Dec.{eqb}
+use lib.ListN.{length, getD, drop}
+use Rattle.plan.specs.Reading.{readOf, numberOf}
+use Rattle.vectors.specs.Tally.{heldAgainst}
+use Rattle.vectors.specs.declared.tally.Outcome.{Outcome}
+use Rattle.vectors.specs.declared.tally.Outcome.the-variants.{Damaged}
+
+-- The body's first byte is the number expected, the others are the file.
+abbrev pub filesOutcome : List ℕ → Outcome
+filesOutcome body = cond (eqb (length body) 0) Damaged (heldAgainst (getD body 0 0) (numberOf (readOf (drop 1 body))))

@@ -1,0 +1,27 @@
+// What becomes of a vector, from the bytes of its body, and how the vectors of a group are counted. Nothing here reads or writes a file: the
+// program `compare` does.
+ghost use mathlib.Core.Path.{_≡_};
+ghost use Rattle.vectors.specs.Groups.{outcomeIn};
+use tally::Outcome;
+
+mod answer;
+pub mod files;
+mod jobs;
+pub mod number;
+pub mod runs;
+pub mod tally;
+
+pub enum Group {
+    Files,
+    Runs,
+}
+
+// What a vector of the group comes to.
+pub fn compare(group: Group, body: &[u8]) -> Outcome
+    ensures { λ r. ⌜ r ≡ outcomeIn group (now (body .entry)) ⌝ }
+{
+    match group {
+        Group::Files => files::compare(body),
+        Group::Runs => runs::compare(body),
+    }
+}
