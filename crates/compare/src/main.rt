@@ -76,4 +76,5 @@ fn run(group: Group, title: &[u8]) {
 fn main() {
     run(Group::Files, b"files");
     run(Group::Runs, b"runs");
+    run(Group::Verdicts, b"verdicts");
 }

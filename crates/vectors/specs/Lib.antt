@@ -4,4 +4,5 @@ pub mod Files
 pub mod Answer
 pub mod Jobs
 pub mod Runs
+pub mod Verdicts
 pub mod Groups

@@ -10,10 +10,12 @@ mod jobs;
 pub mod number;
 pub mod runs;
 pub mod tally;
+pub mod verdicts;
 
 pub enum Group {
     Files,
     Runs,
+    Verdicts,
 }
 
 // What a vector of the group comes to.
@@ -23,5 +25,6 @@ pub fn compare(group: Group, body: &[u8]) -> Outcome
     match group {
         Group::Files => files::compare(body),
         Group::Runs => runs::compare(body),
+        Group::Verdicts => verdicts::compare(body),
     }
 }

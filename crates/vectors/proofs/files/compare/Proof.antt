@@ -1,14 +1,10 @@
 -- `vectors::files::compare` meets its contract: the number expected is the first byte, and the number found is what the reader of plan files
 -- answers for the others.
-use mathlib.Core.Path.{_≡_, ap, _∙_}
-use mathlib.Core.List.{List}
-use Prim.Native.Nat.{ℕ, _-_}
-use native.Mathlib.Nat.{le-refl}
-use lib.ListN.{length, take, drop, length-drop}
-use lib.Seq.{take-all}
+use mathlib.Core.Path.{ap, _∙_}
 use borrow.Author.Needs.{needs}
 use borrow.Author.Tests.{eq-eqb, ne-eqb}
 use Rattle.plan.specs.Reading.{readOf, numberOf}
+use Rattle.vectors.proofs.Rest.{rest}
 use Rattle.vectors.proofs.files.compare.Statement.{statement}
 use Rattle.vectors.proofs.files.compare.Tie as tie
 
@@ -39,15 +35,11 @@ wide-requires c κs = search needs
 held-requires : tie.Need-held-requires
 held-requires c κs = search needs
 
--- all bytes but the first
-rest : (body : List ℕ) → take (length body - 1) (drop 1 body) ≡ drop 1 body
-rest body = take-all (length body - 1) (drop 1 body) (simp length-drop (le-refl _))
-
 returns-2 : tie.Need-returns-2
 returns-2 c =
     let found = c .before .before .before in
     let start = found .before .before .before in
-    let number = found .number-of .ensures ∙ ap numberOf (found .before .read .ensures ∙ ap readOf (rest (start .before .before .args .body .now))) in
+    let number = found .number-of .ensures ∙ ap numberOf (found .before .read .ensures ∙ ap readOf (rest 1 (start .before .before .args .body .now))) in
     simp (c .held .ensures, c .before .wide .ensures .0, number, ne-eqb _ _ (start .if1 .left))
 
 pub compare-spec : {M : Type 1} → statement M
