@@ -1,7 +1,9 @@
 // The parts of a data file, read one after the other.
+ghost use mathlib.Core.Path.{_≡_};
 ghost use lib.ListN.{length};
 ghost use Rattle.vectors.specs.Number.{FourOrCut};
-ghost use Rattle.compare.specs.Data.{Takes};
+ghost use Rattle.compare.specs.Data.{Takes, saysEnd};
+use input::Filled;
 
 // Bytes at the start of a buffer, and whether they are all that were asked for.
 pub struct Taken {
@@ -36,9 +38,19 @@ pub fn number(fd: i32) -> u64
     vectors::number::four_of(&b, got.count)
 }
 
+// Whether a read of one byte says that the input has ended.
+fn says_end(got: Filled) -> bool
+    ensures { λ r. ⌜ r ≡ saysEnd got ⌝ }
+{
+    if got.failed {
+        return false;
+    }
+    got.count == 0
+}
+
 // Whether nothing is left.
 pub fn ended(fd: i32) -> bool {
     let mut b = [0u8; 1];
     let got = input::fill(fd, &mut b);
-    got.count == 0 && !got.failed
+    says_end(got)
 }

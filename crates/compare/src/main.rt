@@ -10,6 +10,7 @@ mod lines;
 ghost use Rattle.compare.specs.Count.{CountsVectors};
 use vectors::Group;
 use vectors::tally::Outcome;
+use vectors::tally::Place;
 use vectors::tally::Tally;
 
 // The longest name and the longest body that a vector may have.
@@ -18,7 +19,7 @@ const NAME_ROOM: usize = 64;
 const BODY_ROOM: usize = 66000;
 
 // Reads and compares the next vector, and writes the line of one that differs where it is the first.
-fn vector(fd: i32, group: Group, title: &[u8], number: u64, is_first: bool) -> Outcome {
+fn vector(fd: i32, group: Group, title: &[u8], place: Place) -> Outcome {
     let mut name = [0u8; NAME_ROOM];
     let mut body = [0u8; BODY_ROOM];
     let name_length = data::number(fd);
@@ -32,8 +33,8 @@ fn vector(fd: i32, group: Group, title: &[u8], number: u64, is_first: bool) -> O
     let n = filled.count;
     let outcome = vectors::compare(group, &body[..n]);
     if let Outcome::Differs { expected, found } = outcome {
-        if is_first {
-            lines::difference(title, number, &name[..m], expected, found);
+        if place.is_first {
+            lines::difference(title, place.number, &name[..m], expected, found);
         }
     }
     outcome
@@ -51,8 +52,8 @@ fn vectors(fd: i32, group: Group, title: &[u8], count: u64) -> Tally
     let mut left = count;
     while left > 0 && tally.whole {
         left -= 1;
-        let is_first = tally.agree == tally.vectors;
-        let outcome = vector(fd, group, title, tally.vectors + 1, is_first);
+        let place = vectors::tally::next(tally);
+        let outcome = vector(fd, group, title, place);
         tally = vectors::tally::counted(tally, outcome);
     }
     tally

@@ -5,10 +5,15 @@ use lib.Dec.{eqb}
 use Rattle.vectors.specs.declared.tally.Outcome.{Outcome}
 use Rattle.vectors.specs.declared.tally.Outcome.the-variants.{Agrees, Differs, Damaged}
 use Rattle.vectors.specs.declared.tally.Tally.{Tally}
+use Rattle.vectors.specs.declared.tally.Place.{Place}
 
 -- a number expected and a number found
 abbrev pub heldAgainst : ℕ → ℕ → Outcome
 heldAgainst expected found = cond (eqb expected found) Agrees (Differs expected found)
+
+-- the place of the vector after those counted: where all have agreed, it is the first that may differ
+abbrev pub nextOf : Tally → Place
+nextOf t = record { number = t .vectors + 1; «is_first» = eqb (t .agree) (t .vectors) }
 
 -- the counts after one vector more
 abbrev pub countedOf : Tally → Outcome → Tally

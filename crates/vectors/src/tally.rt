@@ -1,7 +1,7 @@
 // What becomes of a vector, and the counts of a group.
 ghost use mathlib.Core.Path.{_≡_};
 ghost use Prim.Native.Nat.{_+_, _^_, _≤_, _<_};
-ghost use Rattle.vectors.specs.Tally.{heldAgainst, countedOf};
+ghost use Rattle.vectors.specs.Tally.{heldAgainst, nextOf, countedOf};
 
 // `Damaged`: the data file does not have the vector whole.
 pub enum Outcome {
@@ -25,6 +25,23 @@ pub fn held(expected: u64, found: u64) -> Outcome
         return Outcome::Agrees;
     }
     Outcome::Differs { expected, found }
+}
+
+// The place of a vector: its number, counted from 1, and whether it is the first that differs where it does.
+pub struct Place {
+    pub number: u64,
+    pub is_first: bool,
+}
+
+// The place of the vector after those that are counted.
+pub fn next(tally: Tally) -> Place
+    requires { ⌜ tally .vectors + 1 < 2 ^ 64 ⌝ }
+    ensures { λ r. ⌜ r ≡ nextOf tally ⌝ }
+{
+    Place {
+        number: tally.vectors + 1,
+        is_first: tally.agree == tally.vectors,
+    }
 }
 
 // The counts after a vector that had this outcome.

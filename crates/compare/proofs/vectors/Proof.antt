@@ -1,8 +1,8 @@
 -- `compare::vectors` meets its contract, and ends. The measure is the number of vectors that are left; the invariant: those counted and those
 -- left are no more than the data file says it has, and just as many while none is damaged.
-use mathlib.Core.Bool.{true, true≢false}
+use mathlib.Core.Bool.{true, false, true≢false}
 use mathlib.Core.Path.{_≡_, refl, sym, _∙_}
-use Prim.Native.Nat.{_+_, _≤_}
+use Prim.Native.Nat.{_+_, _≤_, _<_}
 use borrow.Author.Needs.{needs}
 use native.Mathlib.Omega.{arith}
 use Rattle.vectors.specs.Tally.{countedOf}
@@ -17,26 +17,27 @@ record More (t u : Tally) : Type 0 where
   agreements : u .agree ≤ u .vectors
   most : u .vectors ≤ t .vectors + 1
   counted : u .whole ≡ true → u .vectors ≡ t .vectors + 1
+  damaged : t .whole ≡ true → u .whole ≡ false → u .vectors ≡ t .vectors
 
 more : (t : Tally) (o : Outcome) → t .agree ≤ t .vectors → More t (countedOf t o)
-more t Agrees h = record { agreements = omega arith; most = omega arith; counted = λ e. refl }
-more t (Differs x y) h = record { agreements = omega arith; most = omega arith; counted = λ e. refl }
-more t Damaged h = record { agreements = omega arith; most = omega arith; counted = λ e. absurd (true≢false (sym e)) }
+more t Agrees h = record { agreements = omega arith; most = omega arith; counted = λ e. refl; damaged = λ e f. absurd (true≢false (sym e ∙ f)) }
+more t (Differs x y) h = record { agreements = omega arith; most = omega arith; counted = λ e. refl; damaged = λ e f. absurd (true≢false (sym e ∙ f)) }
+more t Damaged h = record { agreements = omega arith; most = omega arith; counted = λ e. absurd (true≢false (sym e)); damaged = λ e f. refl }
 
 abbrev Inv-loop : tie.InvT-loop
-Inv-loop fd group title count tally₀ left₀ tally left = (tally .agree ≤ tally .vectors) × (tally .vectors + left ≤ count) × (tally .whole ≡ true → tally .vectors + left ≡ count)
+Inv-loop fd group title count tally₀ left₀ tally left = (tally .agree ≤ tally .vectors) × (tally .vectors + left ≤ count) × (tally .whole ≡ true → tally .vectors + left ≡ count) × (tally .whole ≡ false → tally .vectors < count)
 
 abbrev μ-loop : tie.MeasureT-loop
 μ-loop fd group title count tally₀ left₀ tally left = left
 
 loop-holds : tie.Need-loop-holds Inv-loop μ-loop
-loop-holds c = (omega arith, omega arith, λ e. omega arith)
+loop-holds c = (omega arith, omega arith, λ e. omega arith, λ e. absurd (true≢false e))
 
 sub-left : tie.Need-sub-left Inv-loop μ-loop
 sub-left c = omega arith
 
-add-vector : tie.Need-add-vector Inv-loop μ-loop
-add-vector c = omega arith
+next-requires : tie.Need-next-requires Inv-loop μ-loop
+next-requires c κs = omega arith
 
 vector-requires : tie.Need-vector-requires Inv-loop μ-loop
 vector-requires c κs = search needs
@@ -49,17 +50,17 @@ loop-less c = omega arith
 
 loop-again : tie.Need-loop-again Inv-loop μ-loop
 loop-again c =
-    let k = c .before .before .before .before in
+    let k = c .before .before .before in
     let l = k .before .before .loop in
     let m = more (l .tally) (c .before .vector .result) (l .inv .0) in
     let all = l .inv .2 (k .if1 .taken) in
-    rw (c .counted .ensures) (omega (arith, m .agreements), omega (arith, m .most), λ e. omega (arith, m .counted e))
+    rw (c .counted .ensures) (omega (arith, m .agreements), omega (arith, m .most), λ e. omega (arith, m .counted e), λ e. omega (arith, m .damaged (k .if1 .taken) e))
 
 returns : tie.Need-returns Inv-loop μ-loop
-returns c = record { agreements = omega arith; most = omega arith; all = λ e. absurd (true≢false (sym e ∙ c .if1 .left)) }
+returns c = record { agreements = omega arith; most = omega arith; all = λ e. absurd (true≢false (sym e ∙ c .if1 .left)); damaged = c .before .before .loop .inv .3 }
 
 returns-2 : tie.Need-returns-2 Inv-loop μ-loop
-returns-2 c = record { agreements = omega arith; most = omega arith; all = λ e. omega (arith, c .before .loop .inv .2 e) }
+returns-2 c = record { agreements = omega arith; most = omega arith; all = λ e. omega (arith, c .before .loop .inv .2 e); damaged = c .before .loop .inv .3 }
 
 pub vectors-spec : {M : Type 1} → statement M
 vectors-spec =
@@ -69,7 +70,7 @@ vectors-spec =
     μ-loop
     loop-holds
     sub-left
-    add-vector
+    next-requires
     vector-requires
     counted-requires
     loop-less
