@@ -5,6 +5,7 @@ use mathlib.Core.Bool.{true, cond}
 use mathlib.Core.List.{List, [], _∷_, _++_}
 use Prim.Native.Nat.{ℕ, _+_, _≤_, _<_}
 use native.Mathlib.Omega.{arith}
+use lib.Dec.{eqb}
 use lib.ListN.{length, take, length-append}
 use Rattle.process.specs.Process.{ok, Process, done, leaf, node, entry, Run}
 use Rattle.process.specs.Figure2.{Interleaving, neither, from-left, from-right}
@@ -19,7 +20,6 @@ use Rattle.plan.specs.PlanFile.{Runnable}
 use Rattle.plan.proofs.Fold.{node-ind}
 use Rattle.plan.proofs.Tree.{process-leaf, process-node, distinct, parts-smaller}
 use Rattle.job.proofs.Room.{Below, once-few}
-use lib.Dec.{eqb}
 
 -- an entry for each leaf
 abbrev pub leavesOf : Process → Run
@@ -32,11 +32,13 @@ interleaved-length neither = refl
 interleaved-length (from-left i) = omega (arith, interleaved-length i)
 interleaved-length (from-right i) = omega (arith, interleaved-length i)
 
+-- the levels that are kept are no longer than all
 kept-length : (rs : List Run) → length (whole (take 2 rs)) ≤ length (whole rs)
 kept-length [] = omega arith
 kept-length (p ∷ []) = omega arith
 kept-length (p ∷ q ∷ rs) = omega (arith, length-append p (whole (q ∷ rs)), length-append q (whole rs), length-append p (whole (q ∷ [])), length-append q [])
 
+-- no leaf is written twice: a node's runs are its parts' runs, interleaved
 pub shown-length : (S : Sets) {P : Process} {c : ℕ} {X : S .Set} {rs : List Run} → Shown S P c X rs → length (whole rs) ≤ length (leavesOf P)
 shown-length S shown-none = omega arith
 shown-length S shown-done = omega arith
@@ -46,6 +48,7 @@ shown-length S (shown-leaf-undone a) = omega arith
 shown-length S (shown-node {f = f} {P = P} {Q = Q} {ps = ps} {qs = qs} x y e h z) =
     omega (arith, shown-length S x, shown-length S y, kept-length (joined f true ps qs), interleaved-length (joined-interleaves f true ps qs), length-append (leavesOf P) (leavesOf Q))
 
+-- how often a leaf stands among the leaves
 occurs : (n : ℕ) (P : Process) → occurrences n (leavesOf P) ≡ sumOfLeaves (λ m. cond (eqb n m) 1 0) P
 occurs n done = refl
 occurs n (leaf m k) = omega arith
