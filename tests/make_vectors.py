@@ -2,7 +2,7 @@
 """Writes the vectors of the program `compare` anew: tests/make_vectors.py MODEL
 
 MODEL is the folder of the model (plans.py and sessions.py say which). Written: crates/compare/data/files, runs and verdicts, crates/compare/stdout,
-crates/inspect/stdin, crates/verdict/stdin and stdout, and the session of the program `run`, crates/run/data/plan, stdin and stdout.
+crates/inspect/stdin, crates/verdict/stdin and stdout, crates/course/data, and the session of the program `run`, crates/run/data/plan, stdin and stdout.
 docs/VECTORS.md has the format. The numbers expected are the model's. Where document 01 names one, the script ends if the model has another.
 Nothing but the seeds below decides what is made, so that a second run writes the same bytes.
 """
@@ -11,6 +11,7 @@ import os
 import random
 import sys
 
+from office import MENDED, SWALLOWED
 from plans import block, blocks_of, damaged, model_in, number_of, random_plan
 from sessions import Model, cells_in, permitted, random_entries, session_of
 from verdicts import verdict_vectors
@@ -484,10 +485,13 @@ def main():
     runs = list(runs_vectors(cells))
     write('crates/compare/data/files', files)
     write('crates/compare/data/runs', data_of(runs))
-    verdicts = list(verdict_vectors(model, plans_of_document(), edges_of_lengths()))
+    of_course = list(plans_of_document()) + [('swallowed', SWALLOWED), ('mended', MENDED)]
+    verdicts = list(verdict_vectors(model, of_course, edges_of_lengths()))
     write('crates/compare/data/verdicts', data_of(verdicts))
     counts = ''.join(f'{group}: {n} vectors, {n} agree\n' for group, n in (('files', len(vectors)), ('runs', len(runs)), ('verdicts', len(verdicts))))
     write('crates/compare/stdout', counts.encode())
+    for name, file in of_course:
+        write(f'crates/course/data/{name.lower()}.plan', file)
     write('crates/inspect/stdin', P1)
     # document 01 has these four lines
     write('crates/verdict/stdin', dict(plans_of_document())['P2'])

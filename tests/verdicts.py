@@ -87,6 +87,8 @@ def plans(model, of_document, edges):
 
 # what document 01 itself says
 SAID = {'P1': 0, 'P2': VIOLATED + 2, 'P7': VIOLATED + 2}
+# and the office's story
+SAID |= {'swallowed': VIOLATED + 13, 'mended': 0}
 
 
 def verdict_vectors(model, of_document, edges):

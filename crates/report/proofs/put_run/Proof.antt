@@ -1,9 +1,9 @@
--- `verdict::put_run` is safe and ends: each entry lies in the 126 bytes.
+-- `report::put_run` is safe and ends: each entry lies in the 126 bytes.
 use Prim.Native.Nat.{_-_, _≤_}
 use borrow.Author.Needs.{needs}
 use native.Mathlib.Omega.{arith}
-use Rattle.verdict.proofs.put_run.Statement.{statement}
-use Rattle.verdict.proofs.put_run.Tie as tie
+use Rattle.report.proofs.put_run.Statement.{statement}
+use Rattle.report.proofs.put_run.Tie as tie
 
 abbrev Inv-loop : tie.InvT-loop
 Inv-loop run i₀ i = i ≤ 63

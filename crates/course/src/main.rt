@@ -1,0 +1,46 @@
+// Judges the plans of the course, one after the other: the name of each, and then the lines of its verdict.
+use libc::STDOUT_FILENO;
+
+// The name on a line of its own, and the verdict on the file.
+fn tell(name: &[u8], file: &[u8]) {
+    let mut work = [0u8; 65536];
+    let mut run = [0u8; 126];
+    let judgement = judge::verdict(file, &mut work, &mut run);
+    let told = io::write_all(STDOUT_FILENO, name)
+        && io::write_all(STDOUT_FILENO, b"\n")
+        && report::tell(judgement, &run);
+    if !told {
+        os::fail(b"standard output");
+    }
+}
+
+// The plan of this name. The largest plan file has 360 bytes, and a longer one is refused by the same number as its first 361 bytes.
+fn plan(name: &[u8]) {
+    let fd = os::open_read(name);
+    if fd < 0 {
+        os::fail(name);
+        return;
+    }
+    let mut file = [0u8; 361];
+    let got = input::fill(fd, &mut file);
+    if got.failed {
+        os::fail(name);
+        return;
+    }
+    libc::close(fd);
+    let n = got.count;
+    tell(name, &file[..n]);
+}
+
+fn main() {
+    plan(b"p1.plan");
+    plan(b"p2.plan");
+    plan(b"p3.plan");
+    plan(b"p4.plan");
+    plan(b"p5.plan");
+    plan(b"p6.plan");
+    plan(b"p7.plan");
+    plan(b"p8.plan");
+    plan(b"swallowed.plan");
+    plan(b"mended.plan");
+}
