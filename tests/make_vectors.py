@@ -300,10 +300,11 @@ def two_faults():
             yield f'faults: {say(*first)}, {say(*second)}', NUMBER.get(first[1], first[1]), with_faults([first, second])
 
 
-def session_of_document():
-    """P1, and lines that meet each kind of answer: entries, entries refused, and no entries; the last has no newline"""
-    lines = ['3 1', '0 1', '0 1', 'finished', '', '3  2', '3 2 ', '+3 2', '03 2', '3 02', '3 256', '3', '3 2 1', '200 1', '2 1', '3 0', '3 3',
-             '3 2', '1 2', '1 1', '1 1']
+def session_by_hand():
+    """a session with the plan that swallows a failed store, which docs/GUIDE.md shows; then lines that meet each kind of answer: entries refused,
+    and no entries; the last has no newline"""
+    lines = ['0 1', '1 2', '3 1', 'done', '2 1', '5 1', '7 1']
+    lines += ['7 1', '', '1  2', '1 2 ', '+1 2', '01 2', '1 02', '1 256', '1', '1 2 1', '200 1', '4 1', '1 0', '1 3', '7 2']
     return '\n'.join(lines).encode()
 
 
@@ -496,9 +497,9 @@ def main():
     # document 01 has these four lines
     write('crates/verdict/stdin', dict(plans_of_document())['P2'])
     write('crates/verdict/stdout', b'violated 2\n0 2\n1 1\n3 1\n')
-    write('crates/run/data/plan', P1)
-    write('crates/run/stdin', session_of_document())
-    write('crates/run/stdout', session_of(cells, P1, session_of_document()).encode())
+    write('crates/run/data/plan', SWALLOWED)
+    write('crates/run/stdin', session_by_hand())
+    write('crates/run/stdout', session_of(cells, SWALLOWED, session_by_hand()).encode())
     counts = {number: sum(n == number for _, n, _ in vectors) for number in range(10)}
     print(f'files: {len(vectors)} vectors, {len(files)} bytes; of each number:', ', '.join(f'{k}: {v}' for k, v in counts.items()))
     steps = [body[at:at + 12] for _, body in runs if body[0] == 0 for at in range(13 + int.from_bytes(body[1:3], 'little'), len(body), 12)]
@@ -507,7 +508,6 @@ def main():
     print(f'runs: {len(runs) - jobs} sessions, {len(steps)} entries offered, {taken} of them taken; {jobs} jobs, {MADE_UP} of them real')
     answers = [int.from_bytes(body[:4], 'little') // 65536 for _, body in verdicts]
     print(f'verdicts: {answers.count(0)} consistent, {answers.count(1)} violated, {answers.count(2)} refused')
-
 
 
 main()
