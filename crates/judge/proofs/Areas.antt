@@ -13,8 +13,8 @@ use Rattle.judge.specs.Verdict.{workSize, recordSize}
 use Rattle.judge.specs.Judged.{clearedWork, withRecord}
 
 -- past the summaries nothing has changed
-pub kept-past : (old new : List ℕ) → length new ≡ length old → ((k : ℕ) → 768 * 63 ≤ k → getD new k 0 ≡ getD old k 0) → drop workSize new ≡ drop workSize old
-kept-past old new long kept =
+pub kept-past : (n : ℕ) → n ≤ 63 → (old new : List ℕ) → length new ≡ length old → ((k : ℕ) → 768 * n ≤ k → getD new k 0 ≡ getD old k 0) → drop workSize new ≡ drop workSize old
+kept-past n few old new long kept =
     ext-getD 0 (drop workSize new) (drop workSize old) (length-drop workSize new ∙ ap (λ (n : ℕ). n - workSize) long ∙ sym (length-drop workSize old))
     (λ i h. getD-drop workSize new i 0 ∙ kept (workSize + i) (omega arith) ∙ sym (getD-drop workSize old i 0))
 

@@ -50,5 +50,5 @@ module _ (types pairs b rule old new : List ℕ) (r : Runnable types b) (filled 
     answer = ap answerOf (answer-found types b root exact rule pairs f finals y (subst (LeastOf rule pairs f) e least));
     beside = beside;
     long = filled .long;
-    kept = kept-past old new (filled .long) (filled .kept);
+    kept = kept-past (count b) (omega (arith, r .nodes-few)) old new (filled .long) (filled .kept);
   }

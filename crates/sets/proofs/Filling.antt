@@ -23,7 +23,7 @@ module _ (types b old : List ℕ) where
     pub most : i ≤ count b
     pub long : length work ≡ length old
     pub holds : Holds types b i work
-    pub kept : (k : ℕ) → 768 * 63 ≤ k → getD work k 0 ≡ getD old k 0
+    pub kept : (k : ℕ) → 768 * i ≤ k → getD work k 0 ≡ getD old k 0
 
   pub filling-none : Filling 0 old
   filling-none = record { most = omega arith; long = refl; holds = λ i h. absurd (not-suc-le-zero h); kept = λ k h. refl }
@@ -40,5 +40,5 @@ module _ (types b old : List ℕ) where
           | inl e ↦ rw (e, load-after-store .back work i s new (rw yes at stored)) exact
           | inr d ↦ rw (load-after-store .others work i s new answer stored j d) (f .holds j (omega arith))
         ];
-        kept = λ k h. w .kept k (inr (omega arith)) ∙ f .kept k h;
+        kept = λ k h. w .kept k (inr (omega arith)) ∙ f .kept k (omega arith);
       }

@@ -18,4 +18,4 @@ Holds types b n work = (i : ℕ) → i < n → Exact (leafSet b) (loaded work i)
 pub record Filled (types b old new : List ℕ) : Type 0 where
   pub long : length new ≡ length old
   pub holds : Holds types b (count b) new
-  pub kept : (k : ℕ) → 768 * 63 ≤ k → getD new k 0 ≡ getD old k 0
+  pub kept : (k : ℕ) → 768 * count b ≤ k → getD new k 0 ≡ getD old k 0

@@ -25,8 +25,8 @@ use Rattle.plan.proofs.Fold.{node-ind, fold-leaf, fold-node}
 use Rattle.plan.proofs.Tree.{process-leaf, process-node, parts-smaller, drawn}
 use Rattle.sets.specs.PlanSets.{leafSet, actionSets}
 use Rattle.sets.specs.Derivation.{Derivation}
-use Rattle.shown.specs.Shows.{recordBytes, ShownRun}
-use Rattle.shown.specs.Levels.{levelsOf, leafRuns, appended, nodeLevels, leafAt, nodeAt, levelsAt}
+use Rattle.shown.specs.Shows.{recordBytes, ShownRun, Shows}
+use Rattle.shown.specs.Levels.{levelsOf, leafRuns, appended, nodeLevels, leafAt, nodeAt, levelsAt, shownBytes}
 use Rattle.shown.specs.declared.Trace.{Trace}
 use Rattle.shown.specs.declared.Levels.{Levels}
 use Rattle.shown.proofs.Joined.{node-joins, whole-traced}
@@ -98,8 +98,8 @@ module _ (types b : List ℕ) (r : Runnable types b) {code set : ℕ} {codes set
   traced = node-ind b (parts-smaller types b r) Traced leaf-traced node-traced
 
   -- the last node's levels put end to end
-  pub shown-bytes : {s : Status} (l : Levels) (t : Trace) → l ≡ levelsAt b codes (count b - 1) → t ≡ appended (l .forward) (l .undo) → Final code s → ShownRun types b s set (t .bytes)
-  shown-bytes l t e z final =
+  shown-bytes : {s : Status} → Final code s → ShownRun types b s set (shownBytes b codes)
+  shown-bytes final =
       let S = actionSets b in
       let last : count b - 1 < count b = omega (arith, r .nodes-some) in
       let x = traced (count b - 1) last in
@@ -111,5 +111,8 @@ module _ (types b : List ℕ) (r : Runnable types b) {code set : ℕ} {codes set
         complete = final-run {c = getD codes (count b - 1) 0} deep (rw (d .top-code) final) (u .by);
         leaves = u .leaves ∙ d .top-set;
         short = short;
-        is = put-together l t (x .runs) (e ∙ x .is) z (shown-few S (x .shown)) short;
+        is = put-together (levelsAt b codes (count b - 1)) _ (x .runs) (x .is) refl (shown-few S (x .shown)) short;
       }
+
+pub shows : (types b codes : List ℕ) → Runnable types b → Shows types b codes (shownBytes b codes)
+shows types b codes r code set sets s d final = shown-bytes types b r d final

@@ -2,13 +2,13 @@
 -- composite's from those of its parts.
 use mathlib.Core.Bool.{cond}
 use mathlib.Core.List.{List, [], _∷_}
-use Prim.Native.Nat.{ℕ, _+_, max}
+use Prim.Native.Nat.{ℕ, _+_, _-_, max}
 use lib.Dec.{eqb, ltb}
 use lib.ListN.{length, getD, take}
 use Rattle.blocks.specs.Area.{fits, placed}
 use Rattle.process.specs.Process.{ok, fail, Form, sequence, parallel, choice, compensation, handler, entry, Run}
 use Rattle.process.specs.Forms.{formOf}
-use Rattle.plan.specs.Nodes.{form}
+use Rattle.plan.specs.Nodes.{count, form}
 use Rattle.plan.specs.Fold.{foldAt}
 use Rattle.shown.specs.Shows.{encode, recordBytes}
 use Rattle.shown.specs.declared.Trace.{Trace}
@@ -63,3 +63,7 @@ nodeAt b i x y = nodeLevels (form b i) x y
 
 abbrev pub levelsAt : List ℕ → List ℕ → ℕ → Levels
 levelsAt b codes i = foldAt (leafAt codes) (nodeAt b) b i
+
+-- The bytes that are shown: the whole process's forward run, and its undo's after it.
+abbrev pub shownBytes : List ℕ → List ℕ → List ℕ
+shownBytes b codes = appended (levelsAt b codes (count b - 1) .forward) (levelsAt b codes (count b - 1) .undo) .bytes

@@ -29,6 +29,7 @@ pub record ShownRun (types b : List ℕ) (s : Status) (set : ℕ) (bytes : List 
   pub short : length run ≤ 63
   pub is : bytes ≡ recordBytes run
 
--- Whatever set the codes derive under a final code, the bytes are those of a run that leaves it.
+-- What is promised of the bytes that are shown: whatever set the codes derive under a final code, they are those of a run that leaves it. The
+-- proof is `shows`.
 abbrev pub Shows : List ℕ → List ℕ → List ℕ → List ℕ → Type 0
 Shows types b codes bytes = (code set : ℕ) (sets : List ℕ) (s : Status) → Derivation types b code set codes sets → Final code s → ShownRun types b s set bytes

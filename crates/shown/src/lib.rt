@@ -7,8 +7,7 @@ ghost use lib.Dec.{ltb};
 ghost use lib.ListN.{replicate};
 ghost use Rattle.process.specs.Process.{sequence, compensation, handler};
 ghost use Rattle.plan.specs.PlanFile.{Runnable};
-ghost use Rattle.shown.specs.Levels.{traceOf, levelsOf, leafRuns, appended, besideEach, bothRan, nodeLevels};
-ghost use Rattle.shown.specs.Shows.{Shows};
+ghost use Rattle.shown.specs.Levels.{traceOf, levelsOf, leafRuns, appended, besideEach, bothRan, nodeLevels, shownBytes};
 
 // A run as bytes, two to an entry, of which there are `len`; the bytes past them are 0.
 pub struct Trace {
@@ -178,7 +177,7 @@ fn levels_of(i: u8, f: u8, code: u8, x: Levels, y: Levels) -> Levels
 // The bytes of the run that the codes give, two bytes an entry, then zeros.
 pub fn show(types: &[u8], nodes: &[u8], codes: &[u8; 63]) -> [u8; 126]
     requires { ⌜ Runnable (now types) (now nodes) ⌝ }
-    ensures { λ r. ⌜ Shows (now (types .entry)) (now (nodes .entry)) (now (codes .entry)) r ⌝ }
+    ensures { λ r. ⌜ r ≡ shownBytes (now (nodes .entry)) (now (codes .entry)) ⌝ }
 {
     let none = ran(0, nothing());
     let n = nodes.len() / 3;

@@ -1,5 +1,6 @@
 -- `judge::run_leaving` meets its contract: the code is final, the derivation has the set under it, and what it shows leaves the set.
 use borrow.Author.Needs.{needs}
+use Rattle.shown.proofs.Derived.{shows}
 use Rattle.judge.proofs.run_leaving.Statement.{statement}
 use Rattle.judge.proofs.run_leaving.Tie as tie
 
@@ -20,7 +21,12 @@ returns c =
     let d = c .before .before .before in
     let f = d .before in
     let u = f .final-code .ensures (f .before .before .before .before .pre .left) in
-    record { status = u .status; shown = c .show .ensures _ _ _ (u .status) (d .derive .ensures) (u .final) }
+    let s = f .before .before .before .before in
+    let b = s .args .nodes .now in
+    record {
+      status = u .status;
+      shown = rw (c .show .ensures) (shows (s .args .types .now) b (d .derive .result .codes) (s .pre .plan) _ _ _ (u .status) (d .derive .ensures) (u .final));
+    }
 
 pub run-leaving-spec : {M : Type 1} → statement M
 run-leaving-spec = tie.close (tie.spec final-code-requires derive-requires show-requires returns)

@@ -49,7 +49,7 @@ returns : tie.Need-returns Inv-loop μ-loop
 returns c =
     let l = c .before in
     let f = l .loop .inv .1 in
-    record { long = f .long; holds = λ i h. f .holds i (omega arith); kept = f .kept }
+    record { long = f .long; holds = λ i h. f .holds i (omega arith); kept = λ k h. f .kept k (omega arith) }
 
 pub fill-spec : {M : Type 1} → statement M
 fill-spec =

@@ -1,6 +1,6 @@
 -- `shown::show` meets its contract: the levels of the nodes passed are filled in, each part of a node before it; the last node's are those
 -- of the run that is shown.
-use mathlib.Core.Path.{_≡_, refl}
+use mathlib.Core.Path.{_≡_, refl, ap, _∙_}
 use mathlib.Core.Bool.{cond}
 use mathlib.Core.List.{[]}
 use Prim.Native.Nat.{_-_, _/_, _<_}
@@ -11,10 +11,10 @@ use borrow.Author.Needs.{needs}
 use Rattle.plan.specs.Nodes.{count, form, left, right}
 use Rattle.plan.proofs.Tree.{parts-smaller}
 use Rattle.state.proofs.Sides.{left-small, right-small}
-use Rattle.shown.specs.Levels.{leafAt, nodeAt}
+use Rattle.shown.specs.Levels.{appended, leafAt, nodeAt}
+use Rattle.shown.specs.declared.Trace.{Trace}
 use Rattle.shown.specs.declared.Levels.{Levels}
 use Rattle.shown.proofs.Filled.{Filled, filled-none, filled-more}
-use Rattle.shown.proofs.Derived.{shown-bytes}
 use Rattle.shown.proofs.show.Statement.{statement}
 use Rattle.shown.proofs.show.Tie as tie
 
@@ -145,13 +145,13 @@ append-requires : tie.Need-append-requires Inv-loop μ-loop
 append-requires c κs = search needs
 
 returns : tie.Need-returns Inv-loop μ-loop
-returns c code set sets status d final =
+returns c =
     let l = c .before .before .before .before in
     let s = l .before .before .before .before .before in
     let b = s .args .nodes .now in
     let last = length b / 3 - 1 in
     let top = l .loop .inv .1 .entries last (omega (arith, s .pre .nodes-some)) in
-    shown-bytes (s .args .types .now) b (s .pre) d (getD (l .loop .table) last blank) (c .before .append .result) top (c .before .append .ensures) final
+    ap (λ (t : Trace). t .bytes) (c .before .append .ensures) ∙ ap (λ (l : Levels). appended (l .forward) (l .undo) .bytes) top
 
 pub show-spec : {M : Type 1} → statement M
 show-spec =
