@@ -6,9 +6,9 @@ use mathlib.Core.List.{List}
 use Prim.Native.Nat.{ℕ, _+_, _*_, _/_, _%_, _<_}
 use native.Mathlib.Omega.{arith}
 use borrow.Author.Count.{below-more}
-use lib.Bits.{bitOr, or-lt, or-block}
+use lib.Bits.{bitOr, or-lt, or-block, or-zero-l, or-zero-r}
 use lib.ListN.{length, getD, set, length-set}
-use Rattle.family.specs.Family.{bitAt, In, Empty, Union, Product}
+use Rattle.family.specs.Family.{bitAt, In, Empty, Single, Union, Product}
 use Rattle.family.specs.Steps.{Spreads, Picked, FromWord, Grown}
 use Rattle.family.proofs.Numbers.{same-or-other}
 use Rattle.family.proofs.Bits.{no-bit, or-left, or-right, or-back}
@@ -143,3 +143,17 @@ module _ (a b : List ℕ) where
 
   pub product-none : (r : List ℕ) → Empty r → Empty a → Product a b r
   product-none r none nothing = record { sound = λ t on. absurd (none t on); complete = λ x y on. absurd (nothing x on) }
+
+-- a family of the empty set alone adds nothing
+module _ (a b : List ℕ) where
+  pub product-unit-left : Single 0 a → Product a b b
+  product-unit-left one = record {
+    sound = λ t on. record { x = 0; y = t; in-left = one .complete (omega arith); in-right = on; is = or-zero-l t };
+    complete = λ x y i on. rw (one .sound x i .0) on;
+  }
+
+  pub product-unit-right : Single 0 b → Product a b a
+  product-unit-right one = record {
+    sound = λ t on. record { x = t; y = 0; in-left = on; in-right = one .complete (omega arith); is = or-zero-r t };
+    complete = λ x y on i. rw (one .sound y i .0, or-zero-r x) on;
+  }

@@ -1,6 +1,7 @@
 // Families of action sets. An action set is a number below 1,024, bit a for action a; a family has one bit for each of them, in sixteen
 // words of 64 bits.
 ghost use mathlib.Core.Path.{_≡_};
+ghost use mathlib.Core.Bool.{true};
 ghost use Prim.Native.Nat.{_<_, _^_};
 ghost use lib.Dec.{eqb};
 ghost use Rattle.family.specs.Family.{hasAt, Empty, Single, Joined, Product, TellsEmpty};
@@ -60,6 +61,18 @@ pub fn join(a: [u64; 16], b: [u64; 16]) -> [u64; 16]
         i += 1;
     }
     r
+}
+
+// Whether the family has the empty set alone, as that of a node that did not run. Only a yes is relied on.
+fn is_unit(f: [u64; 16]) -> bool
+    ensures { λ r. ⌜ (r ≡ true → Single 0 f) ⌝ }
+{
+    if f[0] != 1 {
+        return false;
+    }
+    let mut rest = f;
+    rest[0] = 0;
+    is_empty(rest)
 }
 
 // HIGH[k] has the bits j whose number has bit k.
@@ -147,13 +160,19 @@ fn grow(r: [u64; 16], a: [u64; 16], w: u64, i: usize) -> [u64; 16]
 }
 
 // The unions of a set of a and a set of b. For each word of b that has sets, and each low half x, the sets of that word with x are
-// computed once; then whole words are joined.
+// computed once; then whole words are joined. A side that has the empty set alone adds nothing to the other.
 pub fn product(a: [u64; 16], b: [u64; 16]) -> [u64; 16]
     ensures { λ r. ⌜ Product a b r ⌝ }
 {
     let mut r = [0u64; 16];
     if is_empty(a) {
         return r;
+    }
+    if is_unit(a) {
+        return b;
+    }
+    if is_unit(b) {
+        return a;
     }
     let mut i = 0;
     while i < 16 {

@@ -14,7 +14,7 @@ use lib.Seq.{getD-set-same, getD-set-other, ext-getD}
 use Rattle.family.proofs.Numbers.{below-or-above}
 use Rattle.summary.specs.declared.Summary.{Summary}
 use Rattle.summary.specs.Summary.{familyOf}
-use Rattle.summary.specs.Area.{wordAt, wordsAt, summaryAt, fits, loaded, Kept, Written, Stored, StoreAnswer, LoadAfterStore}
+use Rattle.summary.specs.Area.{wordAt, wordsAt, summaryAt, fits, loaded, Kept, WordWritten, Written, Stored, StoreAnswer, LoadAfterStore}
 
 -- the eight bytes of a word make it
 level : (q next b rest : ℕ) → b ≡ q % 256 → next ≡ q / 256 → rest ≡ next → b + 256 * rest ≡ q
@@ -83,41 +83,56 @@ module _ (old new : List ℕ) (at : ℕ) (same : Same old new at 768) where
       let first = rw e at (part-same 0 (omega arith)) in
       λ t. record { s1 = first t; s2 = part-same 128 (omega arith) t; s3 = part-same 256 (omega arith) t; s4 = part-same 384 (omega arith) t; s5 = part-same 512 (omega arith) t; s6 = part-same 640 (omega arith) t }
 
--- byte k of a family
-abbrev byteOf : List ℕ → ℕ → ℕ
-byteOf f k = getD f (k / 8) 0 / 2 ^ (k % 8 * 8) % 256
+-- byte k of a word
+abbrev byteOf : ℕ → ℕ → ℕ
+byteOf w k = w / 2 ^ (k * 8) % 256
 
--- the first k bytes of the family f are written at `at`
-pub record Writing (old : List ℕ) (at : ℕ) (f : List ℕ) (k : ℕ) (new : List ℕ) : Type 0 where
+-- the first k bytes of the word w are written at `at`
+pub record Putting (old : List ℕ) (at w k : ℕ) (new : List ℕ) : Type 0 where
   pub long : length new ≡ length old
-  pub bytes : (j : ℕ) → j < k → getD new (at + j) 0 ≡ byteOf f j
+  pub bytes : (j : ℕ) → j < k → getD new (at + j) 0 ≡ byteOf w j
+  pub kept : Kept old at 8 new
+
+module _ (old : List ℕ) (at w : ℕ) where
+  pub putting-none : Putting old at w 0 old
+  putting-none = record { long = refl; bytes = λ j l. absurd (omega arith); kept = λ k out. refl }
+
+  pub putting-more : (k : ℕ) (new : List ℕ) → k < 8 → at + 8 ≤ length old → Putting old at w k new → Putting old at w (k + 1) (set new (at + k) (byteOf w k))
+  putting-more k new l room p = record {
+    long = length-set new (at + k) (byteOf w k) ∙ p .long;
+    bytes = below-more (λ j. getD (set new (at + k) (byteOf w k)) (at + j) 0 ≡ byteOf w j) k (λ j h. getD-set-other new (at + k) (at + j) (byteOf w k) 0 (λ e. omega arith) ∙ p .bytes j h)
+        (getD-set-same new (at + k) (byteOf w k) 0 (omega (arith, p .long)));
+    kept = λ j out. getD-set-other new (at + k) j (byteOf w k) 0 (elim out [ inl a ↦ λ e. omega arith | inr a ↦ λ e. omega arith ]) ∙ p .kept j out;
+  }
+
+  pub putting-first : at + 8 ≤ length old → Putting old at w 1 (set old at (w % 256))
+  putting-first room =
+      let e : at + 0 ≡ at = omega arith in
+      let d : w / 1 ≡ w = omega arith in
+      rw (e, d) at (putting-more 0 old (omega arith) room putting-none)
+
+  pub word-written : (new : List ℕ) → w < 2 ^ 64 → Putting old at w 8 new → WordWritten old at w new
+  word-written new small p = record { long = p .long; here = word-back new at w small (p .bytes); kept = p .kept }
+
+-- the first i words of the family f are written at `at`
+pub record Writing (old : List ℕ) (at : ℕ) (f : List ℕ) (i : ℕ) (new : List ℕ) : Type 0 where
+  pub long : length new ≡ length old
+  pub words : (j : ℕ) → j < i → wordAt new (at + j * 8) ≡ getD f j 0
   pub kept : Kept old at 128 new
 
 module _ (old : List ℕ) (at : ℕ) (f : List ℕ) where
   pub writing-none : Writing old at f 0 old
-  writing-none = record { long = refl; bytes = λ j l. absurd (omega arith); kept = λ k out. refl }
+  writing-none = record { long = refl; words = λ j l. absurd (omega arith); kept = λ k out. refl }
 
-  pub writing-more : (k : ℕ) (new : List ℕ) → k < 128 → at + 128 ≤ length old → Writing old at f k new → Writing old at f (k + 1) (set new (at + k) (byteOf f k))
-  writing-more k new l room w = record {
-    long = length-set new (at + k) (byteOf f k) ∙ w .long;
-    bytes = below-more (λ j. getD (set new (at + k) (byteOf f k)) (at + j) 0 ≡ byteOf f j) k (λ j h. getD-set-other new (at + k) (at + j) (byteOf f k) 0 (λ e. omega arith) ∙ w .bytes j h)
-        (getD-set-same new (at + k) (byteOf f k) 0 (omega (arith, w .long)));
-    kept = λ j out. getD-set-other new (at + k) j (byteOf f k) 0 (elim out [ inl a ↦ λ e. omega arith | inr a ↦ λ e. omega arith ]) ∙ w .kept j out;
+  pub writing-more : (i : ℕ) (now new : List ℕ) → i < 16 → Writing old at f i now → WordWritten now (at + i * 8) (getD f i 0) new → Writing old at f (i + 1) new
+  writing-more i now new l p w = record {
+    long = w .long ∙ p .long;
+    words = below-more (λ j. wordAt new (at + j * 8) ≡ getD f j 0) i (λ j h. word-same now new (at + j * 8) (λ k a b. w .kept k (inl (omega arith))) ∙ p .words j h) (w .here);
+    kept = λ k out. w .kept k (elim out [ inl a ↦ inl (omega arith) | inr a ↦ inr (omega arith) ]) ∙ p .kept k out;
   }
 
-  pub written : (new : List ℕ) → length f ≡ 16 → ((i : ℕ) → i < 16 → getD f i 0 < 2 ^ 64) → Writing old at f 128 new → Written old at f new
-  written new sixteen small w = record {
-    long = w .long;
-    here = sym (words-equal f new at sixteen (λ i l. sym (word-back new (at + i * 8) (getD f i 0) (small i l) (byte i l))));
-    kept = w .kept;
-  }
-    where
-      byte : (i : ℕ) → i < 16 → (j : ℕ) → j < 8 → getD new (at + i * 8 + j) 0 ≡ getD f i 0 / 2 ^ (j * 8) % 256
-      byte i l j h =
-          let e₀ : at + i * 8 + j ≡ at + (i * 8 + j) = omega arith in
-          let e₁ : (i * 8 + j) / 8 ≡ i = omega arith in
-          let e₂ : (i * 8 + j) % 8 ≡ j = omega arith in
-          cc (w .bytes (i * 8 + j) (omega arith))
+  pub written : (new : List ℕ) → length f ≡ 16 → Writing old at f 16 new → Written old at f new
+  written new sixteen w = record { long = w .long; here = sym (words-equal f new at sixteen (λ i l. sym (w .words i l))); kept = w .kept }
 
 -- the families of the first k codes are written, each after the other
 pub record Storing (old : List ℕ) (at : ℕ) (s : Summary) (k : ℕ) (new : List ℕ) : Type 0 where

@@ -1,5 +1,6 @@
 pub mod Codes
 pub mod Leaves
+pub mod Rows
 pub mod Sides
 pub mod Areas
 pub mod Exact

@@ -7,12 +7,13 @@ use Prim.Native.Nat.{ℕ, _+_, _<_}
 use native.Mathlib.Omega.{arith}
 use borrow.Author.Count.{below-more}
 use lib.Bits.{bitOr}
-use Rattle.family.specs.Family.{In, Empty, Joined, Product}
+use Rattle.family.specs.Family.{In, Empty, Joined}
 use Rattle.family.proofs.Numbers.{below-or-above}
 use Rattle.outcomes.specs.Cells.{cell}
 use Rattle.summary.specs.declared.Summary.{Summary}
 use Rattle.summary.specs.Summary.{familyOf}
 use Rattle.summary.specs.Node.{FromCell, Under, FromRight, Gathered}
+use Rattle.summary.specs.Row.{Grown, LeftAdded}
 use Rattle.summary.proofs.Codes.{beyond}
 
 -- the right codes below n
@@ -43,6 +44,25 @@ module _ (form left code : ℕ) (b : Summary) where
     complete = λ right t c on. elim (below-or-above right 7) [ inl l ↦ p .complete right l c t on | inr l ↦ absurd (beyond b right l t on) ];
   }
 
+-- one left code: its sets with all that is gathered beside it; nothing where it has no sets
+module _ (form code : ℕ) (a b : Summary) (left : ℕ) (u : List ℕ) where
+  module _ (g j : List ℕ) (right-sets : Gathered form left code b g) (grown : Grown u (familyOf a left) g j) where
+    from-unions : (t : ℕ) → In (grown .unions) t → FromCell form a b code t
+    from-unions t on =
+        let v = grown .product .sound t on in
+        let r = right-sets .sound (v .y) (v .in-right) in
+        record { left = left; right = r .right; is-cell = r .is-cell; union = record { x = v .x; y = v .y; in-left = v .in-left; in-right = r .has; is = v .is } }
+
+    pub left-added : LeftAdded form code a b left u j
+    left-added = record {
+      sound = λ t on. elim (grown .joined .sound t on) [ inl old ↦ inl old | inr new ↦ inr (from-unions t new) ];
+      keeps = grown .joined .left;
+      complete = λ right x y c i k. grown .joined .right (bitOr x y) (grown .product .complete x y i (right-sets .complete right y c k));
+    }
+
+  pub left-empty : Empty (familyOf a left) → LeftAdded form code a b left u u
+  left-empty none = record { sound = λ t on. inl on; keeps = λ t on. on; complete = λ right x y c i. absurd (none x i) }
+
 -- the left codes below n
 pub record Joining (form code : ℕ) (a b : Summary) (n : ℕ) (u : List ℕ) : Type 0 where
   pub sound : (t : ℕ) → In u t → FromCell form a b code t
@@ -52,20 +72,12 @@ module _ (form code : ℕ) (a b : Summary) where
   pub joining-none : (u : List ℕ) → Empty u → Joining form code a b 0 u
   joining-none u none = record { sound = λ t on. absurd (none t on); complete = λ left l. absurd (omega arith) }
 
-  module _ (n : ℕ) (u g p j : List ℕ) (q : Joining form code a b n u) (right-sets : Gathered form n code b g) (unions : Product (familyOf a n) g p) (joined : Joined u p j) where
-    from-product : (t : ℕ) → In p t → FromCell form a b code t
-    from-product t on =
-        let v = unions .sound t on in
-        let r = right-sets .sound (v .y) (v .in-right) in
-        record { left = n; right = r .right; is-cell = r .is-cell; union = record { x = v .x; y = v .y; in-left = v .in-left; in-right = r .has; is = v .is } }
-
-    pub joining-more : Joining form code a b (n + 1) j
-    joining-more = record {
-      sound = λ t on. elim (joined .sound t on) [ inl old ↦ q .sound t old | inr new ↦ from-product t new ];
-      complete = below-more (λ left. (right x y : ℕ) → cell form left right ≡ code → In (familyOf a left) x → In (familyOf b right) y → In j (bitOr x y)) n
-          (λ left l right x y c i k. joined .left (bitOr x y) (q .complete left l right x y c i k))
-          (λ right x y c i k. joined .right (bitOr x y) (unions .complete x y i (right-sets .complete right y c k)));
-    }
+  pub joining-more : (n : ℕ) (u j : List ℕ) → Joining form code a b n u → LeftAdded form code a b n u j → Joining form code a b (n + 1) j
+  joining-more n u j q added = record {
+    sound = λ t on. elim (added .sound t on) [ inl old ↦ q .sound t old | inr new ↦ new ];
+    complete = below-more (λ left. (right x y : ℕ) → cell form left right ≡ code → In (familyOf a left) x → In (familyOf b right) y → In j (bitOr x y)) n
+        (λ left l right x y c i k. added .keeps (bitOr x y) (q .complete left l right x y c i k)) (added .complete);
+  }
 
   pub joined-all : (u : List ℕ) → Joining form code a b 7 u → Under form code a b u
   joined-all u q = record {

@@ -44,6 +44,12 @@ loaded bytes i =
 abbrev pub Kept : List ℕ → ℕ → ℕ → List ℕ → Type 0
 Kept old at n new = (k : ℕ) → (k < at) ⊎ (at + n ≤ k) → getD new k 0 ≡ getD old k 0
 
+-- The word w is written at `at`, and nothing else.
+pub record WordWritten (old : List ℕ) (at w : ℕ) (new : List ℕ) : Type 0 where
+  pub long : length new ≡ length old
+  pub here : wordAt new at ≡ w
+  pub kept : Kept old at 8 new
+
 -- The family f is written at `at`, and nothing else.
 pub record Written (old : List ℕ) (at : ℕ) (f new : List ℕ) : Type 0 where
   pub long : length new ≡ length old

@@ -2,7 +2,7 @@
 ghost use mathlib.Core.Path.{_≡_};
 ghost use Prim.Native.Nat.{_+_, _≤_, _<_};
 ghost use lib.ListN.{length};
-ghost use Rattle.summary.specs.Area.{wordAt, wordsAt, loaded, Written, StoreAnswer};
+ghost use Rattle.summary.specs.Area.{wordAt, wordsAt, loaded, WordWritten, Written, StoreAnswer};
 use crate::Summary;
 
 fn wide(x: u8) -> u64
@@ -42,16 +42,30 @@ fn load_family(area: &[u8], at: usize) -> [u64; 16]
     f
 }
 
+// Writes a word at `at`: its eight bytes in a row, which the compiler makes one store.
+fn store_word(area: &mut [u8], at: usize, w: u64)
+    requires { ⌜ at + 8 ≤ length (now area) ⌝ }
+    ensures { λ r. ⌜ WordWritten (now (area .entry)) at w (now (area .exit)) ⌝ }
+{
+    area[at] = (w % 256) as u8;
+    area[at + 1] = ((w >> 8) % 256) as u8;
+    area[at + 2] = ((w >> 16) % 256) as u8;
+    area[at + 3] = ((w >> 24) % 256) as u8;
+    area[at + 4] = ((w >> 32) % 256) as u8;
+    area[at + 5] = ((w >> 40) % 256) as u8;
+    area[at + 6] = ((w >> 48) % 256) as u8;
+    area[at + 7] = ((w >> 56) % 256) as u8;
+}
+
 // Writes the words of a family at `at`.
 fn store_family(area: &mut [u8], at: usize, f: [u64; 16])
     requires { ⌜ at + 128 ≤ length (now area) ⌝ }
     ensures { λ r. ⌜ Written (now (area .entry)) at f (now (area .exit)) ⌝ }
 {
-    let mut k = 0;
-    while k < 128 {
-        let w = f[k / 8];
-        area[at + k] = ((w >> (k % 8 * 8)) % 256) as u8;
-        k += 1;
+    let mut i = 0;
+    while i < 16 {
+        store_word(area, at + i * 8, f[i]);
+        i += 1;
     }
 }
 

@@ -1,11 +1,13 @@
 // A node's summary: for each of the codes 1 to 6 the family of the action sets that the outcome chart gives it. The summary of a leaf, of
 // a node from those of its two sides; and summaries in a lent area.
 ghost use mathlib.Core.Path.{_≡_};
-ghost use Prim.Native.Nat.{_<_};
+ghost use Prim.Native.Nat.{ℕ, _<_};
 ghost use Rattle.summary.specs.Summary.{familyOf, Only, LeafSummary};
 ghost use Rattle.summary.specs.Node.{Gathered, Under, NodeSummary};
+ghost use Rattle.summary.specs.Row.{Row, Rows, Grown, LeftAdded};
 
 pub mod area;
+mod row;
 
 // The families of the codes 1 to 6. Code 0, not run, has the empty set alone.
 pub struct Summary {
@@ -65,14 +67,14 @@ pub fn leaf(set: usize, finishes: bool, fails: bool) -> Summary
     }
 }
 
-// The sets of the right side under the right codes that give this code beside this left code.
-fn gather(form: u8, left: u8, code: u8, b: Summary) -> [u64; 16]
-    ensures { λ r. ⌜ Gathered form left code b r ⌝ }
+// The sets of the right side under the right codes that give this code beside a left code, whose row it is.
+fn gather(row: u64, code: u64, b: Summary) -> [u64; 16]
+    ensures { λ g. ⌜ ((form left : ℕ) → Row form left row → Gathered form left code b g) ⌝ }
 {
     let mut g = family::empty();
     let mut right = 0u8;
     while right < 7 {
-        if outcomes::chart::cell(form, left, right) == code {
+        if (row >> (right as usize * 4)) % 16 == code {
             let f = family_of(b, right);
             let j = family::join(g, f);
             g = j;
@@ -82,18 +84,40 @@ fn gather(form: u8, left: u8, code: u8, b: Summary) -> [u64; 16]
     g
 }
 
-// The sets of a node under a code.
-fn under(form: u8, code: u8, a: Summary, b: Summary) -> [u64; 16]
-    ensures { λ r. ⌜ Under form code a b r ⌝ }
+// The family u, and the unions of a set of x and a set of y.
+fn grown(u: [u64; 16], x: [u64; 16], y: [u64; 16]) -> [u64; 16]
+    ensures { λ r. ⌜ Grown u x y r ⌝ }
+{
+    if family::is_empty(y) {
+        return u;
+    }
+    let p = family::product(x, y);
+    family::join(u, p)
+}
+
+// The family u, and the sets of a node under a code by the cells of one left code, whose row it is. Where the left side has no sets,
+// nothing is gathered.
+fn with_left(row: u64, code: u64, a: Summary, b: Summary, left: u8, u: [u64; 16]) -> [u64; 16]
+    requires { ⌜ left < 7 ⌝ }
+    ensures { λ r. ⌜ ((form : ℕ) → Row form left row → LeftAdded form code a b left u r) ⌝ }
+{
+    let x = family_of(a, left);
+    if family::is_empty(x) {
+        return u;
+    }
+    let y = gather(row, code, b);
+    grown(u, x, y)
+}
+
+// The sets of a node under a code. The rows are those of its form.
+fn under(rows: [u64; 7], code: u64, a: Summary, b: Summary) -> [u64; 16]
+    ensures { λ u. ⌜ ((form : ℕ) → Rows form rows → Under form code a b u) ⌝ }
 {
     let mut u = family::empty();
     let mut left = 0u8;
     while left < 7 {
-        let x = family_of(a, left);
-        let y = gather(form, left, code, b);
-        let p = family::product(x, y);
-        let j = family::join(u, p);
-        u = j;
+        let n = with_left(rows[left as usize], code, a, b, left, u);
+        u = n;
         left += 1;
     }
     u
@@ -103,12 +127,13 @@ fn under(form: u8, code: u8, a: Summary, b: Summary) -> [u64; 16]
 pub fn node(form: u8, a: Summary, b: Summary) -> Summary
     ensures { λ r. ⌜ NodeSummary form a b r ⌝ }
 {
+    let rows = row::rows_of(form);
     Summary {
-        s1: under(form, 1, a, b),
-        s2: under(form, 2, a, b),
-        s3: under(form, 3, a, b),
-        s4: under(form, 4, a, b),
-        s5: under(form, 5, a, b),
-        s6: under(form, 6, a, b),
+        s1: under(rows, 1, a, b),
+        s2: under(rows, 2, a, b),
+        s3: under(rows, 3, a, b),
+        s4: under(rows, 4, a, b),
+        s5: under(rows, 5, a, b),
+        s6: under(rows, 6, a, b),
     }
 }

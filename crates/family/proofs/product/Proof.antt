@@ -4,7 +4,7 @@ use mathlib.Core.Logic.{inl, inr}
 use Prim.Native.Nat.{ℕ, _-_, _≤_}
 use lib.ListN.{replicate}
 use Rattle.family.proofs.Words.{none-empty}
-use Rattle.family.proofs.Products.{Building, building-none, building-more, building-skip, built, product-none}
+use Rattle.family.proofs.Products.{Building, building-none, building-more, building-skip, built, product-none, product-unit-left, product-unit-right}
 use borrow.Author.Needs.{needs}
 use native.Mathlib.Omega.{arith}
 use Rattle.family.proofs.product.Statement.{statement}
@@ -24,16 +24,32 @@ returns c =
     let a = c .before .before .args in
     product-none (a .a) (a .t2) (replicate 16 0) none-empty (c .before .is-empty .ensures .sound (c .if1 .taken))
 
+is-unit-requires : tie.Need-is-unit-requires Inv-loop μ-loop
+is-unit-requires c κs = search needs
+
+returns-2 : tie.Need-returns-2 Inv-loop μ-loop
+returns-2 c =
+    let a = c .before .before .before .before .args in
+    product-unit-left (a .a) (a .t2) (c .before .is-unit .ensures (c .if2 .taken))
+
+is-unit-requires-2 : tie.Need-is-unit-requires-2 Inv-loop μ-loop
+is-unit-requires-2 c κs = search needs
+
+returns-3 : tie.Need-returns-3 Inv-loop μ-loop
+returns-3 c =
+    let a = c .before .before .before .before .before .before .args in
+    product-unit-right (a .a) (a .t2) (c .before .is-unit2 .ensures (c .if3 .taken))
+
 loop-holds : tie.Need-loop-holds Inv-loop μ-loop
 loop-holds c =
-    let a = c .before .before .args in
+    let a = c .before .before .before .before .before .before .args in
     (omega arith, building-none (a .a) (a .t2) (replicate 16 0) none-empty)
 
-mul-if2 : tie.Need-mul-if2 Inv-loop μ-loop
-mul-if2 c = search needs
+mul-if4 : tie.Need-mul-if4 Inv-loop μ-loop
+mul-if4 c = search needs
 
-array-read-if2 : tie.Need-array-read-if2 Inv-loop μ-loop
-array-read-if2 c = search needs
+array-read-if4 : tie.Need-array-read-if4 Inv-loop μ-loop
+array-read-if4 c = search needs
 
 mul-grow : tie.Need-mul-grow Inv-loop μ-loop
 mul-grow c = search needs
@@ -53,18 +69,18 @@ loop-less c = omega arith
 loop-again : tie.Need-loop-again Inv-loop μ-loop
 loop-again c =
     let l = c .before .before .loop in
-    let a = c .before .before .before .before .before .args in (
+    let a = c .before .before .before .before .before .before .before .before .before .args in (
       omega arith,
-      elim (c .if2 .came) [
+      elim (c .if4 .came) [
         | inl w ↦ rw (w .2) (building-more (a .a) (a .t2) (l .i) (l .r) (l .inv .1) (w .1 .result) (w .1 .ensures))
         | inr w ↦ rw (w .1) (building-skip (a .a) (a .t2) (l .i) (l .r) (l .inv .1) (w .0 .left))
       ],
     )
 
-returns-2 : tie.Need-returns-2 Inv-loop μ-loop
-returns-2 c =
+returns-4 : tie.Need-returns-4 Inv-loop μ-loop
+returns-4 c =
     let l = c .before .loop in
-    let s = c .before .before .before .before in
+    let s = c .before .before .before .before .before .before .before .before in
     let a = s .args in
     let e : l .i ≡ 16 = omega arith in
     built (a .a) (a .t2) (l .r) (omega (arith, s .good .1 .0)) (subst (λ (i : ℕ). Building (a .a) (a .t2) i (l .r)) e (l .inv .1))
@@ -77,13 +93,17 @@ product-spec =
     μ-loop
     is-empty-requires
     returns
+    is-unit-requires
+    returns-2
+    is-unit-requires-2
+    returns-3
     loop-holds
-    mul-if2
-    array-read-if2
+    mul-if4
+    array-read-if4
     mul-grow
     array-read-grow
     grow-requires
     add-i
     loop-less
     loop-again
-    returns-2)
+    returns-4)

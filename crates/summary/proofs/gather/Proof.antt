@@ -2,6 +2,7 @@
 use mathlib.Core.Path.{_≡_, sym, _∙_, subst}
 use mathlib.Core.Logic.{inl, inr}
 use Prim.Native.Nat.{ℕ, _-_, _≤_}
+use Rattle.summary.specs.Row.{Row}
 use Rattle.summary.proofs.Sides.{Gathering, gathering-none, gathering-more, gathering-skip, gathered}
 use borrow.Author.Needs.{needs}
 use native.Mathlib.Omega.{arith}
@@ -9,19 +10,25 @@ use Rattle.summary.proofs.gather.Statement.{statement}
 use Rattle.summary.proofs.gather.Tie as tie
 
 abbrev Inv-loop : tie.InvT-loop
-Inv-loop form left code b g₀ right₀ g right = (right ≤ 7) × Gathering form left code b right g
+Inv-loop row code b g₀ right₀ g right = (right ≤ 7) × ((form left : ℕ) → Row form left row → Gathering form left code b right g)
 
 abbrev μ-loop : tie.MeasureT-loop
-μ-loop form left code b g₀ right₀ g right = 7 - right
+μ-loop row code b g₀ right₀ g right = 7 - right
 
 empty-requires : tie.Need-empty-requires Inv-loop μ-loop
 empty-requires c κs = search needs
 
 loop-holds : tie.Need-loop-holds Inv-loop μ-loop
-loop-holds c = (omega arith, gathering-none _ _ _ _ (c .empty .result) (c .empty .ensures))
+loop-holds c = (omega arith, λ form left row. gathering-none _ _ _ _ (c .empty .result) (c .empty .ensures))
 
-cell-requires : tie.Need-cell-requires Inv-loop μ-loop
-cell-requires c κs = search needs
+cast-if1 : tie.Need-cast-if1 Inv-loop μ-loop
+cast-if1 c = search needs
+
+mul-if1 : tie.Need-mul-if1 Inv-loop μ-loop
+mul-if1 c = search needs
+
+shr-if1 : tie.Need-shr-if1 Inv-loop μ-loop
+shr-if1 c = search needs
 
 family-of-requires : tie.Need-family-of-requires Inv-loop μ-loop
 family-of-requires c κs = search needs
@@ -37,14 +44,16 @@ loop-less c = omega arith
 
 loop-again : tie.Need-loop-again Inv-loop μ-loop
 loop-again c =
-    let l = c .before .before .before .loop in
-    let a = c .before .before .before .before .before .args in
-    let e = c .before .cell .ensures in (
+    let l = c .before .before .loop in
+    let a = c .before .before .before .before .args in (
       omega arith,
-      elim (c .if1 .came) [
-        | inl w ↦ rw (w .3) (gathering-more (a .form) (a .left) (a .code) (a .b) (l .right) (l .g) (l .inv .1) (w .2 .result) (sym e ∙ w .0 .taken) (rw (w .1 .ensures) at (w .2 .ensures)))
-        | inr w ↦ rw (w .1) (gathering-skip (a .form) (a .left) (a .code) (a .b) (l .right) (l .g) (l .inv .1) (λ q. w .0 .left (e ∙ q)))
-      ],
+      λ form left row.
+          let p = l .inv .1 form left row in
+          let e = row (l .right) (omega arith) in
+          elim (c .if1 .came) [
+            | inl w ↦ rw (w .3) (gathering-more form left (a .code) (a .b) (l .right) (l .g) p (w .2 .result) (sym e ∙ w .0 .taken) (rw (w .1 .ensures) at (w .2 .ensures)))
+            | inr w ↦ rw (w .1) (gathering-skip form left (a .code) (a .b) (l .right) (l .g) p (λ q. w .0 .left (e ∙ q)))
+          ],
     )
 
 returns : tie.Need-returns Inv-loop μ-loop
@@ -52,7 +61,7 @@ returns c =
     let l = c .before .loop in
     let a = c .before .before .before .args in
     let e : l .right ≡ 7 = omega arith in
-    gathered (a .form) (a .left) (a .code) (a .b) (l .g) (subst (λ (n : ℕ). Gathering (a .form) (a .left) (a .code) (a .b) n (l .g)) e (l .inv .1))
+    λ form left row. gathered form left (a .code) (a .b) (l .g) (subst (λ (n : ℕ). Gathering form left (a .code) (a .b) n (l .g)) e (l .inv .1 form left row))
 
 pub gather-spec : {M : Type 1} → statement M
 gather-spec =
@@ -62,7 +71,9 @@ gather-spec =
     μ-loop
     empty-requires
     loop-holds
-    cell-requires
+    cast-if1
+    mul-if1
+    shr-if1
     family-of-requires
     join-requires
     add-right

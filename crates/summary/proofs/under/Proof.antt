@@ -1,6 +1,7 @@
 -- `summary::under` meets its contract: the left codes passed are joined in (`Joining`).
 use mathlib.Core.Path.{_≡_, subst}
 use Prim.Native.Nat.{ℕ, _-_, _≤_}
+use Rattle.summary.specs.Row.{Rows}
 use Rattle.summary.proofs.Sides.{Joining, joining-none, joining-more, joined-all}
 use borrow.Author.Needs.{needs}
 use native.Mathlib.Omega.{arith}
@@ -8,28 +9,28 @@ use Rattle.summary.proofs.under.Statement.{statement}
 use Rattle.summary.proofs.under.Tie as tie
 
 abbrev Inv-loop : tie.InvT-loop
-Inv-loop form code a b u₀ left₀ u left = (left ≤ 7) × Joining form code a b left u
+Inv-loop code a b rows u₀ left₀ u left = (left ≤ 7) × ((form : ℕ) → Rows form rows → Joining form code a b left u)
 
 abbrev μ-loop : tie.MeasureT-loop
-μ-loop form code a b u₀ left₀ u left = 7 - left
+μ-loop code a b rows u₀ left₀ u left = 7 - left
 
 empty-requires : tie.Need-empty-requires Inv-loop μ-loop
 empty-requires c κs = search needs
 
 loop-holds : tie.Need-loop-holds Inv-loop μ-loop
-loop-holds c = (omega arith, joining-none _ _ _ _ (c .empty .result) (c .empty .ensures))
+loop-holds c = (omega arith, λ form rows. joining-none _ _ _ _ (c .empty .result) (c .empty .ensures))
 
-family-of-requires : tie.Need-family-of-requires Inv-loop μ-loop
-family-of-requires c κs = search needs
+cast-with-left : tie.Need-cast-with-left Inv-loop μ-loop
+cast-with-left c = search needs
 
-gather-requires : tie.Need-gather-requires Inv-loop μ-loop
-gather-requires c κs = search needs
+mul-with-left : tie.Need-mul-with-left Inv-loop μ-loop
+mul-with-left c = search needs
 
-product-requires : tie.Need-product-requires Inv-loop μ-loop
-product-requires c κs = search needs
+array-read-with-left : tie.Need-array-read-with-left Inv-loop μ-loop
+array-read-with-left c = search needs
 
-join-requires : tie.Need-join-requires Inv-loop μ-loop
-join-requires c κs = search needs
+with-left-requires : tie.Need-with-left-requires Inv-loop μ-loop
+with-left-requires c κs = search needs
 
 add-left : tie.Need-add-left Inv-loop μ-loop
 add-left c = omega arith
@@ -39,19 +40,18 @@ loop-less c = omega arith
 
 loop-again : tie.Need-loop-again Inv-loop μ-loop
 loop-again c =
-    let l = c .before .before .before .before .before .loop in
-    let a = c .before .before .before .before .before .before .before .args in
-    let x = c .before .before .before .family-of in
-    let y = c .before .before .gather in
-    let p = c .before .product in
-    (omega arith, joining-more (a .form) (a .code) (a .a) (a .b) (l .left) (l .u) (y .result) (p .result) (c .join .result) (l .inv .1) (y .ensures) (rw (x .ensures) at (p .ensures)) (c .join .ensures))
+    let l = c .before .before .loop in
+    let a = c .before .before .before .before .args in (
+      omega arith,
+      λ form rows. joining-more form (a .code) (a .a) (a .b) (l .left) (l .u) (c .with-left .result) (l .inv .1 form rows) (c .with-left .ensures form (rows (l .left) (omega arith))),
+    )
 
 returns : tie.Need-returns Inv-loop μ-loop
 returns c =
     let l = c .before .loop in
     let a = c .before .before .before .args in
     let e : l .left ≡ 7 = omega arith in
-    joined-all (a .form) (a .code) (a .a) (a .b) (l .u) (subst (λ (n : ℕ). Joining (a .form) (a .code) (a .a) (a .b) n (l .u)) e (l .inv .1))
+    λ form rows. joined-all form (a .code) (a .a) (a .b) (l .u) (subst (λ (n : ℕ). Joining form (a .code) (a .a) (a .b) n (l .u)) e (l .inv .1 form rows))
 
 pub under-spec : {M : Type 1} → statement M
 under-spec =
@@ -61,10 +61,10 @@ under-spec =
     μ-loop
     empty-requires
     loop-holds
-    family-of-requires
-    gather-requires
-    product-requires
-    join-requires
+    cast-with-left
+    mul-with-left
+    array-read-with-left
+    with-left-requires
     add-left
     loop-less
     loop-again
