@@ -6,11 +6,12 @@
 
 enum { RUN = 126 };
 
-/* The first set of y whose union with a is the set; SETS where there is none. A word that is 0 has no sets and is passed over. */
+/* The first set of y whose union with a is the set; SETS where there is none. It has all that a lacks, and no more than the set. A word
+   that is 0 has no sets and is passed over. */
 static unsigned right_of(const word *y, unsigned a, unsigned set)
 {
-    unsigned b = 0;
-    while (b < SETS) {
+    unsigned b = set - a; /* a is contained in the set */
+    while (b <= set) {
         if ((a | b) == set && family_has(y, b))
             return b;
         b = y[b / 64] ? b + 1 : b - b % 64 + 64;
