@@ -57,25 +57,32 @@ static double median(double *times)
     return times[ROUNDS / 2];
 }
 
+static unsigned size_of(const word *f)
+{
+    unsigned n = 0;
+    for (unsigned set = 0; set < SETS; set++)
+        n += family_has(f, set);
+    return n;
+}
+
 /* The number of the plan's sets, and how many of its nodes have all 1,024 sets under each of the six codes. */
 static unsigned set_count(const struct plan_file *f, unsigned *full_nodes)
 {
     struct layout p;
-    struct summaries s;
-    word sets[WORDS];
+    word *area = (word *)work, sets[WORDS];
     *full_nodes = 0;
     if (read_plan(f->bytes, f->len, &p))
         return 0;
-    summarise(&p, work, &s);
-    final_sets(&s, p.node_count - 1, sets);
+    summarise(&p, area);
+    final_sets(area, p.node_count - 1, sets);
     for (unsigned i = 0; i < p.node_count; i++) {
         unsigned full = 0;
         for (unsigned code = 1; code < CODES; code++)
-            full += family_size(family_of(&s, i, code)) == SETS;
+            full += size_of(family_of(area, i, code)) == SETS;
         *full_nodes += full == CODES - 1;
     }
     memset(work, 0, sizeof work);
-    return family_size(sets);
+    return size_of(sets);
 }
 
 /* The answer of both, or an end of the program where they differ: times of different answers compare nothing. */

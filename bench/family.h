@@ -25,15 +25,15 @@ static inline void family_join(word *out, const word *f)
         out[i] |= f[i];
 }
 
-static inline unsigned family_size(const word *f)
+static inline int family_is_empty(const word *f)
 {
-    unsigned n = 0;
     for (unsigned i = 0; i < WORDS; i++)
-        n += __builtin_popcountll(f[i]);
-    return n;
+        if (f[i])
+            return 0;
+    return 1;
 }
 
-/* Joins to `out` the unions of a set of a and a set of b. */
-void family_join_product(word *out, const word *a, const word *b);
+/* The unions of a set of a and a set of b. */
+void family_product(word *out, const word *a, const word *b);
 
 #endif

@@ -9,18 +9,18 @@ static unsigned types_fault(const struct layout *p)
     return 0;
 }
 
-/* No action is first in two pairs, or first in one and second in any. */
+/* Each pair beside every pair: no action is first in two pairs, or first in one and second in any. */
 static unsigned pairs_fault(const struct layout *p)
 {
-    unsigned firsts = 0, seconds = 0;
     for (unsigned i = 0; i < p->pair_count; i++) {
         unsigned action = p->pairs[2 * i], undo = p->pairs[2 * i + 1];
-        if (action >= p->actions || undo >= p->actions || (firsts >> action & 1))
+        if (action >= p->actions || undo >= p->actions)
             return 5;
-        firsts |= 1u << action;
-        seconds |= 1u << undo;
+        for (unsigned j = 0; j < p->pair_count; j++)
+            if (action == p->pairs[2 * j + 1] || (i != j && action == p->pairs[2 * j]))
+                return 5;
     }
-    return firsts & seconds ? 5 : 0;
+    return 0;
 }
 
 static int node_ok(const uint8_t *n, unsigned i, unsigned actions)
@@ -32,36 +32,33 @@ static int node_ok(const uint8_t *n, unsigned i, unsigned actions)
     return n[0] <= HANDLER && n[1] < i && n[2] < i;
 }
 
+/* How often node j is named. */
+static unsigned times_named(const struct layout *p, unsigned j)
+{
+    unsigned times = 0;
+    for (unsigned i = 0; i < p->node_count; i++) {
+        const uint8_t *n = p->nodes + 3 * i;
+        if (n[0] >= SEQUENCE)
+            times += (n[1] == j) + (n[2] == j);
+    }
+    return times;
+}
+
 /* Forms first (6), then naming (7), then compensations in undo sides (8). */
 static unsigned nodes_fault(const struct layout *p)
 {
-    const uint8_t *n;
     for (unsigned i = 0; i < p->node_count; i++)
         if (!node_ok(p->nodes + 3 * i, i, p->actions))
             return 6;
-
-    uint64_t named = 0;
-    for (unsigned i = 0; i < p->node_count; i++) {
-        n = p->nodes + 3 * i;
-        if (n[0] < SEQUENCE)
-            continue;
-        uint64_t left = 1ull << n[1], right = 1ull << n[2];
-        if (left == right || named & (left | right))
+    for (unsigned j = 0; j + 1 < p->node_count; j++)
+        if (times_named(p, j) != 1)
             return 7;
-        named |= left | right;
-    }
-    if (named != (1ull << (p->node_count - 1)) - 1)
-        return 7;
-
-    uint64_t holding = 0; /* the nodes with a compensation at or below them */
+    uint8_t holding[MOST_NODES]; /* whether a compensation stands at a node or below it */
     for (unsigned i = 0; i < p->node_count; i++) {
-        n = p->nodes + 3 * i;
-        if (n[0] < SEQUENCE)
-            continue;
-        uint64_t left = holding >> n[1] & 1, right = holding >> n[2] & 1;
-        if (n[0] == COMPENSATION && right)
+        const uint8_t *n = p->nodes + 3 * i;
+        if (n[0] == COMPENSATION && holding[n[2]])
             return 8;
-        holding |= (uint64_t)(n[0] == COMPENSATION || left || right) << i;
+        holding[i] = n[0] >= SEQUENCE && (n[0] == COMPENSATION || holding[n[1]] || holding[n[2]]);
     }
     return 0;
 }

@@ -1,112 +1,148 @@
 /* A derivation by the outcome chart, found again from the summaries: downward from the whole process each node gets a code and a set, by
-   the first cell and the first two sets that fit. The codes then say which leaves ran, and in which order. */
+   the first cell and the first two sets that fit. Then the codes give, upward, each node's run and its undo's. */
 #include "shown.h"
 
-struct derivation {
-    const struct layout *plan;
-    uint8_t code[MOST_NODES];
-    uint16_t set[MOST_NODES];
-};
+#include <string.h>
 
-/* The first set of y whose union with a, a part of the set, is the set; SETS where there is none. */
+enum { RUN = 126 };
+
+/* The first set of y whose union with a is the set; SETS where there is none. It has all that a lacks, and no more than the set. A word
+   that is 0 has no sets and is passed over. */
 static unsigned right_of(const word *y, unsigned a, unsigned set)
 {
-    uint64_t low = 1; /* by the low six actions */
-    for (unsigned k = 0; k < 6; k++)
-        if (set >> k & 1)
-            low = (a >> k & 1 ? low : 0) | low << (1u << k);
-    unsigned may = a >> 6, must = (set & ~a) >> 6;
-    unsigned h = 0;
-    do { /* the parts of `may`, ascending */
-        uint64_t w = y[must | h] & low;
-        if (w)
-            return 64 * (must | h) + __builtin_ctzll(w);
-        h = (h - may) & may;
-    } while (h);
+    unsigned b = set - a; /* a is contained in the set */
+    while (b <= set) {
+        if ((a | b) == set && family_has(y, b))
+            return b;
+        b = y[b / 64] ? b + 1 : b - b % 64 + 64;
+    }
     return SETS;
 }
 
 /* The first set of x, and the first of y beside it, whose union is the set. */
 static int split(const word *x, const word *y, unsigned set, uint16_t *left, uint16_t *right)
 {
-    unsigned a = 0;
-    do { /* the parts of the set, ascending */
-        if (family_has(x, a)) {
-            unsigned b = right_of(y, a, set);
-            if (b < SETS) {
-                *left = a, *right = b;
-                return 1;
-            }
+    for (unsigned a = 0; a < SETS; a++) {
+        if ((a | set) != set || !family_has(x, a))
+            continue;
+        unsigned b = right_of(y, a, set);
+        if (b < SETS) {
+            *left = a, *right = b;
+            return 1;
         }
-        a = (a - set) & set;
-    } while (a);
+    }
     return 0;
 }
 
-/* Gives the parts of node i their codes and sets. */
-static void derive_parts(struct derivation *d, const struct summaries *s, unsigned i)
+/* A code and a set for each node. */
+struct marks {
+    uint8_t code[MOST_NODES];
+    uint16_t set[MOST_NODES];
+};
+
+/* Marks the parts of node i by its own mark. The product tells whether a cell has any, so that no search is in vain. */
+static void mark_parts(struct marks *m, const uint8_t *n, const word *area, unsigned i)
 {
-    const uint8_t *n = d->plan->nodes + 3 * i;
     unsigned l = n[1], r = n[2];
-    const uint8_t *chart = chart_of(n[0]);
     for (unsigned k = 0; k < CODES * CODES; k++) {
         unsigned left = k / CODES, right = k % CODES;
-        if (chart[k] != d->code[i] || !(s->codes[l] >> left & 1) || !(s->codes[r] >> right & 1))
+        if (cell(n[0], left, right) != m->code[i])
             continue;
-        if (split(family_of(s, l, left), family_of(s, r, right), d->set[i], &d->set[l], &d->set[r])) {
-            d->code[l] = left, d->code[r] = right;
+        const word *x = family_of(area, l, left), *y = family_of(area, r, right);
+        word unions[WORDS];
+        family_product(unions, x, y);
+        if (family_has(unions, m->set[i]) && split(x, y, m->set[i], &m->set[l], &m->set[r])) {
+            m->code[l] = left, m->code[r] = right;
             return;
         }
     }
 }
 
-static uint8_t *put_undo(const struct derivation *d, unsigned i, uint8_t *at);
+/* A run, two bytes an entry; the bytes past `len` are 0. */
+struct trace {
+    uint8_t bytes[RUN];
+    unsigned len;
+};
 
-/* The entries of node i's forward run. */
-static uint8_t *put_forward(const struct derivation *d, unsigned i, uint8_t *at)
+/* How many levels of a node ran, 0 to 2, and their runs: forward, and its undo's. */
+struct levels {
+    unsigned count;
+    struct trace forward, undo;
+};
+
+static void append(struct trace *out, const struct trace *a, const struct trace *b)
 {
-    const uint8_t *n = d->plan->nodes + 3 * i;
-    if (d->code[i] == 0)
-        return at;
-    if (n[0] < SEQUENCE) {
-        *at++ = i;
-        *at++ = d->code[i] < 4 ? 1 : 2;
-        return at;
-    }
-    at = put_forward(d, n[1], at);
-    if (n[0] == COMPENSATION)
-        return at;
-    if (n[0] == HANDLER && d->code[n[2]])
-        at = put_undo(d, n[1], at);
-    return put_forward(d, n[2], at);
+    struct trace r = *a;
+    memcpy(r.bytes + r.len, b->bytes, b->len);
+    r.len += b->len;
+    *out = r;
 }
 
-/* The entries of its undo's run: the right's undo before the left's in a sequence, a compensation's right side where it ran. */
-static uint8_t *put_undo(const struct derivation *d, unsigned i, uint8_t *at)
+static void leaf_levels(struct levels *out, unsigned i, unsigned code)
 {
-    const uint8_t *n = d->plan->nodes + 3 * i;
-    if (d->code[i] == 0 || n[0] < SEQUENCE)
-        return at;
-    switch (n[0]) {
-    case SEQUENCE:
-        return put_undo(d, n[1], put_undo(d, n[2], at));
-    case COMPENSATION:
-        return d->code[n[2]] ? put_forward(d, n[2], at) : put_undo(d, n[1], at);
-    case HANDLER:
-        return put_undo(d, d->code[n[2]] ? n[2] : n[1], at);
+    memset(out, 0, sizeof *out);
+    if (code != 1 && code != 2 && code != 4 && code != 5)
+        return;
+    out->count = code == 1 || code == 4 ? 1 : 2;
+    out->forward.bytes[0] = i;
+    out->forward.bytes[1] = code < 4 ? 1 : 2;
+    out->forward.len = 2;
+}
+
+static void node_levels(struct levels *out, unsigned form, const struct levels *x, const struct levels *y)
+{
+    if (x->count == 0) {
+        *out = *y;
+        return;
+    }
+    if (y->count == 0) {
+        *out = *x;
+        return;
+    }
+    out->count = x->count < y->count ? y->count : x->count;
+    switch (form) {
+    case SEQUENCE: /* undone from right to left */
+        append(&out->forward, &x->forward, &y->forward);
+        append(&out->undo, &y->undo, &x->undo);
+        return;
+    case COMPENSATION: /* the right is the undo of a left that has none */
+        *out = *x;
+        if (x->count == 1) {
+            out->count = 2;
+            out->undo = y->forward;
+        }
+        return;
+    case HANDLER: /* the left with its undo, then the right, whose undo is the whole's */
+        append(&out->forward, &x->forward, &x->undo);
+        append(&out->forward, &out->forward, &y->forward);
+        out->count = y->count;
+        out->undo = y->undo;
+        return;
     default:
-        return put_undo(d, n[2], put_undo(d, n[1], at));
+        append(&out->forward, &x->forward, &y->forward);
+        append(&out->undo, &x->undo, &y->undo);
     }
 }
 
-void show_run(const struct layout *p, const struct summaries *s, unsigned set, uint8_t *record)
+void show_run(const struct layout *p, const word *area, unsigned set, uint8_t *record)
 {
-    struct derivation d = {.plan = p};
     unsigned root = p->node_count - 1;
-    d.code[root] = family_has(family_of(s, root, 1), set) ? 1 : family_has(family_of(s, root, 5), set) ? 5 : 6;
-    d.set[root] = set;
+    struct marks m = {0};
+    m.code[root] = family_has(family_of(area, root, 1), set) ? 1 : family_has(family_of(area, root, 5), set) ? 5 : 6;
+    m.set[root] = set;
     for (unsigned i = p->node_count; i-- > 0;)
-        if (p->nodes[3 * i] >= SEQUENCE && d.code[i])
-            derive_parts(&d, s, i);
-    put_undo(&d, root, put_forward(&d, root, record));
+        if (p->nodes[3 * i] >= SEQUENCE)
+            mark_parts(&m, p->nodes + 3 * i, area, i);
+
+    struct levels table[MOST_NODES];
+    for (unsigned i = 0; i < p->node_count; i++) {
+        const uint8_t *n = p->nodes + 3 * i;
+        if (n[0] < SEQUENCE)
+            leaf_levels(&table[i], i, m.code[i]);
+        else
+            node_levels(&table[i], n[0], &table[n[1]], &table[n[2]]);
+    }
+    struct trace run;
+    append(&run, &table[root].forward, &table[root].undo);
+    memcpy(record, run.bytes, RUN);
 }

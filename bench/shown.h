@@ -4,7 +4,7 @@
 
 #include "summary.h"
 
-/* Writes to `record`, 126 bytes that are 0, a complete run that leaves the set, which is one of the plan's sets. */
-void show_run(const struct layout *p, const struct summaries *s, unsigned set, uint8_t *record);
+/* Writes to `record`, 126 bytes, a complete run that leaves the set, which is one of the plan's sets. */
+void show_run(const struct layout *p, const word *area, unsigned set, uint8_t *record);
 
 #endif

@@ -3,147 +3,75 @@
 
 #include <string.h>
 
-/* Document 01's 245 codes: forms 3 to 7, left code 0 to 6, right code 0 to 6. */
-static const uint8_t CHART[5][CODES * CODES] = {
-    { /* sequence */
-        0, 7, 7, 7, 7, 7, 7,
-        7, 1, 7, 3, 4, 7, 6,
-        7, 7, 2, 7, 7, 5, 7,
-        7, 7, 3, 7, 7, 6, 7,
-        4, 7, 7, 7, 7, 7, 7,
-        5, 7, 7, 7, 7, 7, 7,
-        6, 7, 7, 7, 7, 7, 7,
-    },
-    { /* parallel */
-        0, 7, 7, 7, 4, 5, 6,
-        7, 1, 7, 3, 4, 7, 6,
-        7, 7, 2, 3, 7, 5, 6,
-        7, 3, 3, 3, 6, 6, 6,
-        4, 4, 7, 6, 4, 7, 6,
-        5, 7, 5, 6, 7, 5, 6,
-        6, 6, 6, 6, 6, 6, 6,
-    },
-    { /* choice */
-        0, 1, 2, 3, 4, 5, 6,
-        1, 7, 7, 7, 7, 7, 7,
-        2, 7, 7, 7, 7, 7, 7,
-        3, 7, 7, 7, 7, 7, 7,
-        4, 7, 7, 7, 7, 7, 7,
-        5, 7, 7, 7, 7, 7, 7,
-        6, 7, 7, 7, 7, 7, 7,
-    },
-    { /* compensation */
-        0, 7, 7, 7, 7, 7, 7,
-        1, 2, 7, 7, 7, 3, 7,
-        7, 7, 7, 7, 7, 7, 7,
-        7, 7, 7, 7, 7, 7, 7,
-        4, 7, 7, 7, 7, 7, 7,
-        5, 7, 7, 7, 7, 7, 7,
-        6, 7, 7, 7, 7, 7, 7,
-    },
-    { /* handler */
-        0, 7, 7, 7, 7, 7, 7,
-        1, 7, 7, 7, 7, 7, 7,
-        2, 7, 7, 7, 7, 7, 7,
-        3, 7, 7, 7, 7, 7, 7,
-        7, 7, 7, 7, 7, 7, 7,
-        7, 1, 2, 3, 4, 5, 6,
-        7, 1, 2, 3, 4, 5, 6,
-    },
+/* Document 01's 245 codes: forms 3 to 7, left code 0 to 6. */
+const uint32_t ROWS[5][CODES] = {
+    {0x7777770, 0x6743717, 0x7577277, 0x7677377, 0x7777774, 0x7777775, 0x7777776}, /* sequence */
+    {0x6547770, 0x6743717, 0x6573277, 0x6663337, 0x6746744, 0x6576575, 0x6666666}, /* parallel */
+    {0x6543210, 0x7777771, 0x7777772, 0x7777773, 0x7777774, 0x7777775, 0x7777776}, /* choice */
+    {0x7777770, 0x7377721, 0x7777777, 0x7777777, 0x7777774, 0x7777775, 0x7777776}, /* compensation */
+    {0x7777770, 0x7777771, 0x7777772, 0x7777773, 0x7777777, 0x6543217, 0x6543217}, /* handler */
 };
 
 const uint64_t NOT_RUN[WORDS] = {1};
 
-const uint8_t *chart_of(unsigned form)
-{
-    return CHART[form - SEQUENCE];
-}
-
 /* A leaf that may finish has its set under 1 and 2, one that may fail the empty set under 4 and 5. */
-static void leaf(struct summaries *s, unsigned i, unsigned set, int finishes, int fails)
+static void leaf(word *out, unsigned set, int finishes, int fails)
 {
-    word *out = s->area + SUMMARY_WORDS * i;
     memset(out, 0, SUMMARY_WORDS * sizeof *out);
-    s->codes[i] = 1;
     if (finishes) {
         family_insert(out, set);
         family_insert(out + WORDS, set);
-        s->codes[i] |= 1 << 1 | 1 << 2;
     }
     if (fails) {
         family_insert(out + 3 * WORDS, 0);
         family_insert(out + 4 * WORDS, 0);
-        s->codes[i] |= 1 << 4 | 1 << 5;
     }
 }
 
-/* Joins to `out` what the left code gives beside the right codes in `rights`: their families are joined before the product. */
-static void join_cells(word *out, const struct summaries *s, unsigned l, unsigned left, unsigned r, unsigned rights)
+/* The sets of the right side under the right codes that give this code beside a left code, whose row it is. */
+static void gather(word *out, uint32_t row, unsigned code, const word *area, unsigned r)
 {
-    const word *a = family_of(s, l, left);
-    const word *b = family_of(s, r, __builtin_ctz(rights));
-    word joined[WORDS];
-    if (rights == 1) { /* the right side not run: the left's sets */
-        family_join(out, a);
-        return;
-    }
-    if (rights & (rights - 1)) {
-        memcpy(joined, b, sizeof joined);
-        for (unsigned more = rights & (rights - 1); more; more &= more - 1)
-            family_join(joined, family_of(s, r, __builtin_ctz(more)));
-        b = joined;
-    }
-    if (left == 0)
-        family_join(out, b);
-    else
-        family_join_product(out, a, b);
+    memset(out, 0, WORDS * sizeof *out);
+    for (unsigned right = 0; right < CODES; right++)
+        if ((row >> 4 * right & 15) == code)
+            family_join(out, family_of(area, r, right));
 }
 
-static void composite(struct summaries *s, unsigned i, unsigned form, unsigned l, unsigned r)
+/* The sets of a node under a code. */
+static void under(word *out, const uint32_t *rows, unsigned code, const word *area, unsigned l, unsigned r)
 {
-    const uint8_t *chart = chart_of(form);
-    word *out = s->area + SUMMARY_WORDS * i;
-    memset(out, 0, SUMMARY_WORDS * sizeof *out);
-    s->codes[i] = 1;
-    for (unsigned lefts = s->codes[l]; lefts; lefts &= lefts - 1) {
-        unsigned left = __builtin_ctz(lefts);
-        uint8_t rights[CODES + 1] = {0}; /* the right codes that give a code beside this left one */
-        for (unsigned all = s->codes[r]; all; all &= all - 1) {
-            unsigned right = __builtin_ctz(all);
-            rights[chart[CODES * left + right]] |= 1 << right;
-        }
-        for (unsigned code = 1; code < CODES; code++)
-            if (rights[code]) {
-                join_cells(out + WORDS * (code - 1), s, l, left, r, rights[code]);
-                s->codes[i] |= 1 << code;
-            }
+    memset(out, 0, WORDS * sizeof *out);
+    for (unsigned left = 0; left < CODES; left++) {
+        const word *x = family_of(area, l, left);
+        word y[WORDS], unions[WORDS];
+        if (family_is_empty(x))
+            continue;
+        gather(y, rows[left], code, area, r);
+        if (family_is_empty(y))
+            continue;
+        family_product(unions, x, y);
+        family_join(out, unions);
     }
 }
 
-void summarise(const struct layout *p, uint8_t *area, struct summaries *s)
+void summarise(const struct layout *p, word *area)
 {
-    s->area = (word *)area;
     for (unsigned i = 0; i < p->node_count; i++) {
         const uint8_t *n = p->nodes + 3 * i;
-        switch (n[0]) {
-        case ACTION:
-            leaf(s, i, 1u << n[1], p->types[n[1]] != 2, p->types[n[1]] != 1);
-            break;
-        case SKIP:
-            leaf(s, i, 0, 1, 0);
-            break;
-        case THROW:
-            leaf(s, i, 0, 0, 1);
-            break;
-        default:
-            composite(s, i, n[0], n[1], n[2]);
+        word *out = area + SUMMARY_WORDS * i;
+        if (n[0] < SEQUENCE) {
+            unsigned type = n[0] == ACTION ? p->types[n[1]] : n[0];
+            leaf(out, n[0] == ACTION ? 1u << n[1] : 0, type != 2, type != 1);
+        } else {
+            for (unsigned code = 1; code < CODES; code++)
+                under(out + WORDS * (code - 1), ROWS[n[0] - SEQUENCE], code, area, n[1], n[2]);
         }
     }
 }
 
-void final_sets(const struct summaries *s, unsigned root, word out[WORDS])
+void final_sets(const word *area, unsigned root, word out[WORDS])
 {
-    const word *f1 = family_of(s, root, 1), *f5 = family_of(s, root, 5), *f6 = family_of(s, root, 6);
+    const word *f1 = family_of(area, root, 1), *f5 = family_of(area, root, 5), *f6 = family_of(area, root, 6);
     for (unsigned i = 0; i < WORDS; i++)
         out[i] = f1[i] | f5[i] | f6[i];
 }

@@ -7,27 +7,28 @@
 
 enum { CODES = 7, SUMMARY_WORDS = 6 * WORDS };
 
-/* The summaries of a plan's nodes, node i's from word 96 * i of the lent area on, code after code; and which codes of a node have sets. */
-struct summaries {
-    word *area;
-    uint8_t codes[MOST_NODES];
-};
-
 /* The family of the code 0, not run: the empty set alone. */
 extern const uint64_t NOT_RUN[WORDS];
 
-/* Cell (left, right) of a form is row[7 * left + right] of its row: a code, or 7 where the two cannot occur. */
-const uint8_t *chart_of(unsigned form);
+/* The outcome chart's row of a form, 3 to 7, and a left code: the cell of the right code r is hexadecimal digit r from the right, a code, or 7
+   where the two cannot occur. */
+extern const uint32_t ROWS[5][CODES];
 
-static inline const word *family_of(const struct summaries *s, unsigned node, unsigned code)
+static inline unsigned cell(unsigned form, unsigned left, unsigned right)
 {
-    return code ? s->area + SUMMARY_WORDS * node + WORDS * (code - 1) : (const word *)NOT_RUN;
+    return ROWS[form - SEQUENCE][left] >> 4 * right & 15;
 }
 
-/* The summaries of all nodes, in `area`, of 63 * 768 bytes. */
-void summarise(const struct layout *p, uint8_t *area, struct summaries *s);
+/* The summaries of a plan's nodes lie in the lent area, node i's from word 96 * i on, code after code. */
+static inline const word *family_of(const word *area, unsigned node, unsigned code)
+{
+    return code ? area + SUMMARY_WORDS * node + WORDS * (code - 1) : (const word *)NOT_RUN;
+}
+
+/* Puts the summaries of all nodes into the area, of 63 * 96 words. */
+void summarise(const struct layout *p, word *area);
 
 /* The sets of the whole plan: those under 1, 5 and 6. */
-void final_sets(const struct summaries *s, unsigned root, word out[WORDS]);
+void final_sets(const word *area, unsigned root, word out[WORDS]);
 
 #endif

@@ -3,10 +3,10 @@
 use mathlib.Core.Path.{_≡_, sym, ap, _∙_}
 use mathlib.Core.Logic.{inl, inr}
 use mathlib.Core.List.{List}
-use Prim.Native.Nat.{ℕ, _+_, _/_, _%_, _<_}
+use Prim.Native.Nat.{ℕ, _+_, _-_, _/_, _%_, _<_, _≤_, min}
 use native.Mathlib.Omega.{arith}
 use borrow.Author.Count.{below-more}
-use lib.Bits.{bitOr, or-self}
+use lib.Bits.{bitOr, or-self, or-add-and, and-le-l}
 use lib.ListN.{length, getD}
 use Rattle.family.specs.Family.{In, Union}
 use Rattle.family.proofs.Numbers.{same-or-other, below-or-above}
@@ -28,8 +28,13 @@ module _ (y : List ℕ) (a set : ℕ) where
     ]
   ]
 
-  pub none-all : length y ≡ 16 → NoneBelow y a set 1024 → (b : ℕ) → In y b → ¬ (bitOr a b ≡ set)
-  none-all sixteen none b on e = none b (in-range y sixteen b on) on e
+  -- what a lacks of the set is in its partner
+  pub none-first : NoneBelow y a set (set - a)
+  none-first b l on e = omega (arith, or-add-and a b)
+
+  -- a partner is no more than the set
+  pub none-all : length y ≡ 16 → (n : ℕ) → min (set + 1) 1024 ≤ n → NoneBelow y a set n → (b : ℕ) → In y b → ¬ (bitOr a b ≡ set)
+  none-all sixteen n l none b on e = none b (omega (arith, in-range y sixteen b on, or-add-and a b, and-le-l a b)) on e
 
 -- a part is contained in the whole
 pub contained : (a b set : ℕ) → bitOr a b ≡ set → bitOr a set ≡ set

@@ -2,7 +2,7 @@
 // node's set.
 ghost use mathlib.Core.Path.{_≡_};
 ghost use mathlib.Core.Bool.{false};
-ghost use Prim.Native.Nat.{_<_};
+ghost use Prim.Native.Nat.{_<_, _+_, _-_, min};
 ghost use Rattle.derivation.specs.Search.{After, RightOf, Beside, SplitBy, AtCell, PartsOf};
 use summary::Summary;
 
@@ -40,12 +40,33 @@ fn after(w: u64, t: usize) -> usize
     t + 1
 }
 
-// The first set of y whose union with a is the set.
+// What set has more than a: no smaller set makes it with a.
+fn least_beside(a: usize, set: usize) -> usize
+    ensures { λ r. ⌜ r ≡ set - a ⌝ }
+{
+    if a <= set {
+        return set - a;
+    }
+    0
+}
+
+// The end of the sets that may be a part of set.
+fn end_of_parts(set: usize) -> usize
+    ensures { λ r. ⌜ r ≡ min (set + 1) 1024 ⌝ }
+{
+    if set < 1024 {
+        return set + 1;
+    }
+    1024
+}
+
+// The first set of y whose union with a is the set. It has all that a lacks, and no more than the set.
 fn right_of(y: [u64; 16], a: usize, set: usize) -> Found
     ensures { λ r. ⌜ RightOf y a set r ⌝ }
 {
-    let mut b = 0;
-    while b < 1024 {
+    let end = end_of_parts(set);
+    let mut b = least_beside(a, set);
+    while b < end {
         if (a | b) == set {
             if family::member(y, b) {
                 return Found::At(b);
