@@ -52,7 +52,7 @@ pub fn four_at(s: &[u8], at: usize) -> u64
 }
 
 // The number of the four bytes at the start, of which `count` have come. Where they are cut short, it is more than four bytes hold.
-pub fn four_of(s: &[u8], count: usize) -> u64
+pub fn four_of(s: &[u8; 4], count: usize) -> u64
     ensures { λ r. ⌜ (r ≡ fourOf (now (s .entry)) count) × FourOrCut r ⌝ }
 {
     if count < 4 {

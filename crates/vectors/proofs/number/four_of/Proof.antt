@@ -13,7 +13,7 @@ four-at-requires : tie.Need-four-at-requires
 four-at-requires c κs = search needs
 
 returns-2 : tie.Need-returns-2
-returns-2 c = (rw (le-ltb _ _ (c .before .if1 .left)) (c .four-at .ensures .0), inl (c .four-at .ensures .1))
+returns-2 c = (rw (le-ltb _ _ (c .before .before .if1 .left)) (c .four-at .ensures .0), inl (c .four-at .ensures .1))
 
 pub four-of-spec : {M : Type 1} → statement M
 four-of-spec = tie.close (tie.spec returns four-at-requires returns-2)
