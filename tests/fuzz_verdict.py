@@ -16,6 +16,19 @@ from concurrent.futures import ThreadPoolExecutor
 
 from plans import damaged, random_plan
 from sessions import FEW_LEAVES, Model, cells_in, leaves_of
+from verdicts import not_just, with_rule
+
+
+def random_file(cells, rng):
+    """a plan as it is, or with a rule that one of its own sets breaks and no other, so that long runs are shown; some damaged"""
+    file = random_plan(cells, rng)
+    what = rng.randrange(8)
+    if what == 0:
+        return damaged(rng, file)
+    if what < 4:
+        return file
+    types, _, nodes, _ = cells.parse(bytes(file))
+    return with_rule(cells, file, not_just(len(types), rng.choice(sorted(cells.plan_sets(cells.tree_of(nodes, types))))))
 
 
 def said(command, data):
@@ -74,8 +87,7 @@ def main():
     met, entries = collections.Counter(), 0
     with ThreadPoolExecutor(2) as pool:
         for start in range(0, count, 200):
-            files = [random_plan(cells, rng) for _ in range(min(200, count - start))]
-            files = [damaged(rng, file) if rng.randrange(8) == 0 else file for file in files]
+            files = [random_file(cells, rng) for _ in range(min(200, count - start))]
             for file, text in zip(files, pool.map(lambda f: said([programs['verdict']], f), files)):
                 fault = fault_of(cells, programs, file, text)
                 if fault:
