@@ -9,7 +9,7 @@ use native.Mathlib.Nat.{not-suc-le-zero}
 use native.Mathlib.Omega.{arith}
 use lib.Dec.{eqb}
 use borrow.Author.Tests.{eqb-true, eqb-false}
-use Rattle.blocks.specs.Bounded.{every, total}
+use Rattle.blocks.specs.Bounded.{every, total, one}
 
 -- a test, decided, with what it says
 pub decide : (t : Bool) → (t ≡ true) ⊎ (t ≡ false)
@@ -116,3 +116,7 @@ module _ (g : ℕ → ℕ) where
       go : (k < n → total n g ≡ g k) → (k ≡ n) ⊎ (k < n) → g n + total n g ≡ g k
       go rest (inl e) = rw e (omega (arith, total-none n (λ i j. h i (omega arith) (λ z. omega arith))))
       go rest (inr m) = omega (arith, rest m, h n (omega arith) (λ z. omega arith))
+
+pub one-most : (t : Bool) → one t ≤ 1
+one-most true = omega arith
+one-most false = omega arith

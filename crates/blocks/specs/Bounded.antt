@@ -11,3 +11,8 @@ every (suc n) p = cond (p n) (every n p) false
 unfoldable pub total : ℕ → (ℕ → ℕ) → ℕ
 total zero g = 0
 total (suc n) g = g n + total n g
+
+-- a test's answer as a term of such a sum
+abbrev pub one : Bool → ℕ
+one true = 1
+one false = 0

@@ -9,11 +9,11 @@ use Prim.Native.Nat.{ℕ, _+_, _-_, _≤_, _<_}
 use native.Mathlib.Omega.{arith}
 use Rattle.family.proofs.Numbers.{same-or-other, below-or-above}
 use Rattle.outcomes.specs.Families.{InFamily}
-use Rattle.plan.specs.Nodes.{count, form, left, right, Side, on-left, on-right, Names}
+use Rattle.nodes.specs.Nodes.{count, form, left, right, Side, on-left, on-right, Names}
 use Rattle.plan.specs.PlanFile.{Runnable}
 use Rattle.plan.specs.Tree.{processOf}
 use Rattle.plan.proofs.Tree.{parts-smaller}
-use Rattle.plan.proofs.Under.{smaller}
+use Rattle.nodes.proofs.Under.{smaller}
 use Rattle.sets.specs.PlanSets.{actionSets}
 use Rattle.sets.specs.Derivation.{Derivation}
 use Rattle.derivation.specs.declared.Marks.{Marks}

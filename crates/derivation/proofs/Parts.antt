@@ -10,13 +10,13 @@ use Rattle.outcomes.specs.Families.{InFamily}
 use Rattle.outcomes.proofs.Members.{out-node-family, from-sides}
 use Rattle.process.specs.Process.{Process}
 use Rattle.process.specs.Forms.{formOf}
-use Rattle.plan.specs.Nodes.{count, form, left, right, Side, on-left, on-right, child, Names, itself}
+use Rattle.nodes.specs.Nodes.{count, form, left, right, Side, on-left, on-right, child, Names, itself}
 use Rattle.plan.specs.PlanFile.{Runnable}
 use Rattle.plan.specs.Tree.{processAt}
 use Rattle.plan.proofs.Tree.{parts-smaller, process-node}
-use Rattle.plan.proofs.Under.{smaller, apart}
+use Rattle.nodes.proofs.Under.{smaller, apart}
 use Rattle.state.proofs.Sides.{left-small, right-small}
-use Rattle.summary.specs.Area.{loaded}
+use Rattle.area.specs.Area.{loaded}
 use Rattle.summary.specs.Node.{FromCell}
 use Rattle.summary.proofs.Exact.{same-number}
 use Rattle.sets.specs.PlanSets.{actionSets}

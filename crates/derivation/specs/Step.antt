@@ -6,7 +6,7 @@ use lib.Bits.{bitOr}
 use lib.ListN.{getD}
 use Rattle.outcomes.specs.Cells.{cell}
 use Rattle.outcomes.specs.Families.{InFamily}
-use Rattle.plan.specs.Nodes.{form, left, right, Side, child, Names}
+use Rattle.nodes.specs.Nodes.{form, left, right, Side, child, Names}
 use Rattle.plan.specs.Tree.{processAt}
 use Rattle.sets.specs.PlanSets.{actionSets}
 use Rattle.derivation.specs.declared.Marks.{Marks}

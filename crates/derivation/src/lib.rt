@@ -3,7 +3,7 @@
 ghost use Prim.Native.Nat.{_<_};
 ghost use lib.ListN.{getD};
 ghost use Rattle.outcomes.specs.Families.{InFamily};
-ghost use Rattle.plan.specs.Nodes.{count};
+ghost use Rattle.nodes.specs.Nodes.{count};
 ghost use Rattle.plan.specs.PlanFile.{Runnable};
 ghost use Rattle.plan.specs.Tree.{processAt, processOf};
 ghost use Rattle.sets.specs.PlanSets.{actionSets};
@@ -35,8 +35,8 @@ fn step(types: &[u8], nodes: &[u8], work: &[u8], i: usize, m: Marks) -> Marks
     let p = search::parts_of(
         form,
         codes[i],
-        summary::area::load(work, l),
-        summary::area::load(work, r),
+        area::load(work, l),
+        area::load(work, r),
         sets[i],
     );
     codes[l] = p.left.code;

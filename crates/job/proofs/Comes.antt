@@ -11,13 +11,13 @@ use lib.ListN.{getD}
 use borrow.Author.Tests.{eqb-true, eqb-false, eq-eqb, ne-eqb, ltb-true, lt-ltb}
 use Rattle.blocks.proofs.Bounded.{decide, both-true}
 use Rattle.process.specs.Process.{Status, ok, fail, Kind, permits, Permits, Process, entry, Run}
-use Rattle.plan.specs.Nodes.{count, form, left}
+use Rattle.nodes.specs.Nodes.{count, form, left}
 use Rattle.plan.specs.PlanFile.{Runnable}
 use Rattle.plan.specs.Tree.{typeKind, leafKind, processOf}
 use Rattle.plan.proofs.Tree.{some-leaf, drawn}
 use Rattle.runs.specs.Beginnings.{Begins, Beginnings}
 use Rattle.runs.specs.Cells.{toldNext}
-use Rattle.runs.specs.declared.cells.Told.{Told}
+use Rattle.runs.specs.declared.Told.{Told}
 use Rattle.runs.proofs.Beginnings.{beginnings}
 use Rattle.state.specs.State.{toldBy, leafType, typePermits, isNext, leafPermits, mayCome}
 use Rattle.state.proofs.LeafTypes.{type-finishes, type-fails, kind-type}

@@ -19,7 +19,7 @@ use Rattle.plan.specs.declared.Layout.{Layout}
 use Rattle.plan.specs.declared.Reading.the-variants.{Accepted}
 use Rattle.plan.proofs.Demand1.{demand1, runnable}
 use Rattle.runs.specs.Cells.{Holds, ending, toldEnded, toldNext}
-use Rattle.runs.specs.declared.cells.Told as cells
+use Rattle.runs.specs.declared.Told as cells
 use Rattle.runs.proofs.Leaves.{holds-none}
 use Rattle.state.specs.State.{toldBy, mayCome, freshTable, replay, entryAt, entriesFrom, stateAfter}
 use Rattle.job.specs.Job.{saying, refusal, freshJob, planOf, zerosFrom, tidy, withEntry, isOpen, stalled, afterEntry, takeWith, takeOn, takeOf}

@@ -11,15 +11,15 @@ use borrow.Author.Tests.{eqb-true, eqb-false}
 use Rattle.blocks.proofs.Bounded.{decide}
 use Rattle.process.specs.Process.{Status, ok, fail, Process, node, entry, Run}
 use Rattle.process.specs.Forms.{formOf}
-use Rattle.plan.specs.Nodes.{count, form, left, right, Descending}
+use Rattle.nodes.specs.Nodes.{count, form, left, right, Descending}
 use Rattle.plan.specs.PlanFile.{Runnable}
 use Rattle.plan.specs.Tree.{leafKind, leafOf, compositeOf, processAt, processOf}
-use Rattle.plan.proofs.Fold.{node-ind, fold-leaf, fold-node}
+use Rattle.nodes.proofs.Fold.{node-ind, fold-leaf, fold-node}
 use Rattle.plan.proofs.Tree.{parts-smaller}
 use Rattle.runs.specs.Cells.{Outcomes, ending, noneRun, setOutcome, outcomesAfter, toldEnded, toldNext}
 use Rattle.runs.specs.TwoLevels.{toldTwo, cellsTwo}
-use Rattle.runs.specs.declared.cells.Ended.the-variants.{Open}
-use Rattle.runs.specs.declared.cells.Told.{Told}
+use Rattle.runs.specs.declared.Ended.the-variants.{Open}
+use Rattle.runs.specs.declared.Told.{Told}
 use Rattle.runs.proofs.TwoLevels.{two-levels}
 use Rattle.state.specs.State.{outcomeOf, leafCells, nodeCells, cellsAt, toldBy, freshTable}
 use Rattle.job.specs.Offer.{statusNumber}

@@ -13,9 +13,9 @@ use Rattle.plan.specs.declared.Layout.{Layout}
 use Rattle.plan.specs.declared.Reading.the-variants.{Accepted}
 use Rattle.runs.specs.Beginnings.{Begins}
 use Rattle.runs.specs.Cells.{Holds, ending, toldEnded, toldNext}
-use Rattle.runs.specs.declared.cells.Ended.{Ended}
-use Rattle.runs.specs.declared.cells.Ended.the-variants as ended
-use Rattle.runs.specs.declared.cells.Told as cells
+use Rattle.runs.specs.declared.Ended.{Ended}
+use Rattle.runs.specs.declared.Ended.the-variants as ended
+use Rattle.runs.specs.declared.Told as cells
 use Rattle.state.specs.State.{toldBy, mayCome}
 use Rattle.job.specs.Job.{endOf, saying, refusal, withEntry, takeOf}
 use Rattle.job.specs.Offer.{Standing, onAnswer, next, offer, started, statusNumber, statusOf, runEntry, recordOf}

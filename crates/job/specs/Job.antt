@@ -10,9 +10,9 @@ use Rattle.plan.specs.Reading.{bytesOf, readOf}
 use Rattle.plan.specs.declared.Layout.{Layout}
 use Rattle.plan.specs.declared.Reading.{Reading}
 use Rattle.plan.specs.declared.Reading.the-variants as reading
-use Rattle.runs.specs.declared.cells.Ended.{Ended}
-use Rattle.runs.specs.declared.cells.Ended.the-variants as ended
-use Rattle.runs.specs.declared.cells.Told as cells
+use Rattle.runs.specs.declared.Ended.{Ended}
+use Rattle.runs.specs.declared.Ended.the-variants as ended
+use Rattle.runs.specs.declared.Told as cells
 use Rattle.state.specs.State.{toldBy, mayCome, freshTable, stateAfter}
 use Rattle.state.specs.declared.Entry.{Entry}
 use Rattle.job.specs.declared.Status.the-variants.{Succeeded, Failed}

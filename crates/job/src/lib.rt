@@ -1,7 +1,7 @@
 // The runner: a job carries its plan and its record so far, and lets through exactly the beginnings of its plan's runs.
 use plan::Layout;
 use plan::Reading;
-use runs::cells::Ended;
+use runs::Ended;
 use state::Entry;
 ghost use mathlib.Core.Path.{_≡_};
 ghost use Prim.Native.Nat.{_≤_, _<_};
@@ -57,7 +57,7 @@ fn end_of(e: Ended) -> End
     }
 }
 
-fn say(t: runs::cells::Told) -> Told
+fn say(t: runs::Told) -> Told
     ensures { λ r. ⌜ r ≡ saying t ⌝ }
 {
     let ended = t.ended;
@@ -128,7 +128,7 @@ fn is_open(e: Ended) -> bool
 }
 
 // Whether the run neither ends nor goes on.
-fn is_stalled(t: runs::cells::Told) -> bool
+fn is_stalled(t: runs::Told) -> bool
     ensures { λ r. ⌜ r ≡ stalled t ⌝ }
 {
     let ended = t.ended;

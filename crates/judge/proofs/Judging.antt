@@ -9,13 +9,13 @@ use borrow.Author.Tests.{eqb-true, eqb-false}
 use Rattle.family.specs.Family.{hasAt, In}
 use Rattle.process.specs.Process.{Status, ok, fail}
 use Rattle.outcomes.specs.Codes.{Final, final-1, final-5, final-6}
-use Rattle.plan.specs.Nodes.{count}
+use Rattle.nodes.specs.Nodes.{count}
 use Rattle.plan.specs.PlanFile.{Runnable}
 use Rattle.plan.specs.Tree.{processOf}
 use Rattle.summary.specs.declared.Summary.{Summary}
 use Rattle.summary.specs.Summary.{familyOf}
 use Rattle.summary.specs.Exact.{Exact}
-use Rattle.summary.specs.Area.{loaded}
+use Rattle.area.specs.Area.{loaded}
 use Rattle.sets.specs.PlanSets.{leafSet}
 use Rattle.sets.specs.Fill.{Filled}
 use Rattle.least.specs.Least.{FinalSet, Finals, LeastOf}

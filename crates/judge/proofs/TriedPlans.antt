@@ -13,8 +13,8 @@ use Rattle.outcomes.specs.Families.{outcomes, planSets}
 use Rattle.outcomes.proofs.Members.{among-member}
 use Rattle.outcomes.proofs.Table.{both-hold}
 use Rattle.blocks.specs.Bounded.{every, total}
-use Rattle.plan.specs.Fold.{foldFrom}
-use Rattle.plan.specs.Rule.{ruleFrom}
+use Rattle.nodes.specs.Fold.{foldFrom}
+use Rattle.bodies.specs.Rule.{ruleFrom}
 use Rattle.plan.specs.Reading.{readOf}
 use Rattle.plan.specs.declared.Layout.{Layout}
 use Rattle.plan.specs.declared.Reading.{Reading}

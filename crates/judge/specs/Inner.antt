@@ -8,7 +8,7 @@ use lib.ListN.{length, drop, replicate}
 use Rattle.family.specs.Family.{In}
 use Rattle.process.specs.Process.{Status}
 use Rattle.outcomes.specs.Codes.{Final}
-use Rattle.plan.specs.Nodes.{count}
+use Rattle.nodes.specs.Nodes.{count}
 use Rattle.plan.specs.PlanFile.{Runnable}
 use Rattle.plan.specs.Tree.{processOf}
 use Rattle.rule.specs.Value.{satisfies}

@@ -73,7 +73,7 @@ fn judge(types: &[u8], pairs: &[u8], nodes: &[u8], rule: &[u8], work: &mut [u8])
     ensures { λ r. ⌜ JudgedPlan (now (types .entry)) (now (pairs .entry)) (now (nodes .entry)) (now (rule .entry)) (now (work .entry)) (now (work .exit)) (r .judgement) (r .run) ⌝ }
 {
     sets::fill(types, nodes, work);
-    let root = summary::area::load(work, nodes.len() / 3 - 1);
+    let root = area::load(work, nodes.len() / 3 - 1);
     match least::find(rule, pairs, least::finals(root)) {
         Least::Nothing => Finding {
             judgement: Judgement::Consistent,

@@ -7,8 +7,8 @@ use lib.ListN.{length, length-take, length-drop}
 use Rattle.plan.specs.Reading.{bytesOf, readOf}
 use Rattle.plan.specs.Demand1.{InARow, Demand1}
 use Rattle.plan.specs.PlanFile.{Runnable}
-use Rattle.plan.specs.Types.{typesOk}
-use Rattle.plan.proofs.TypesPairs.{types-say}
+use Rattle.bodies.specs.Types.{typesOk}
+use Rattle.bodies.proofs.TypesPairs.{types-say}
 use Rattle.plan.specs.declared.Layout.{Layout}
 use Rattle.plan.specs.declared.Reading.the-variants.{Accepted}
 use Rattle.plan.proofs.Lengths.{sized-types, sized-nodes}

@@ -11,20 +11,20 @@ use lib.Seq.{drop-length}
 use lib.Dec.{leb}
 use borrow.Author.Tests.{le-leb, eq-eqb}
 use Rattle.blocks.specs.Block.{block}
-use Rattle.plan.specs.Types.{typesOk}
-use Rattle.plan.specs.Pairs.{pairsOk}
-use Rattle.plan.specs.Nodes.{NodeRules}
-use Rattle.plan.specs.NodeTests.{formsOk, namedOk, nestedOk, nodesFault}
-use Rattle.plan.specs.Rule.{ruleOk}
+use Rattle.bodies.specs.Types.{typesOk}
+use Rattle.bodies.specs.Pairs.{pairsOk}
+use Rattle.nodes.specs.Nodes.{NodeRules}
+use Rattle.nodes.specs.NodeTests.{formsOk, namedOk, nestedOk, nodesFault}
+use Rattle.bodies.specs.Rule.{ruleOk}
 use Rattle.plan.specs.PlanFile.{Bytes, Items, PlanFile}
 use Rattle.plan.specs.Reading.{lengthOk, bytesOf, endOf, readWithin}
 use Rattle.plan.specs.declared.Layout.{Layout}
 use Rattle.plan.specs.declared.Reading.the-variants.{Accepted}
-use Rattle.plan.proofs.TypesPairs.{types-say, pairs-say}
-use Rattle.plan.proofs.Forms.{forms-say, descending}
-use Rattle.plan.proofs.Named.{named-say}
-use Rattle.plan.proofs.Under.{nested-say}
-use Rattle.plan.proofs.Postfix.{rule-say}
+use Rattle.bodies.proofs.TypesPairs.{types-say, pairs-say}
+use Rattle.nodes.proofs.Forms.{forms-say, descending}
+use Rattle.nodes.proofs.Named.{named-say}
+use Rattle.nodes.proofs.Under.{nested-say}
+use Rattle.bodies.proofs.Postfix.{rule-say}
 use Rattle.plan.proofs.Lengths.{sized-types, sized-pairs, sized-nodes, sized-rule}
 use Rattle.plan.proofs.Accepted.{Bodies, accepted-bodies, bodies-accepted}
 use Rattle.plan.proofs.Blocks.{body-length, block-here, block-lies}

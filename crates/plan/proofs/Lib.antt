@@ -1,13 +1,5 @@
-pub mod Scan
-pub mod Fold
-pub mod Nested
-pub mod TypesPairs
-pub mod Forms
 pub mod Lengths
 pub mod Lying
-pub mod Named
-pub mod Under
-pub mod Postfix
 pub mod Accepted
 pub mod Blocks
 pub mod Exactly

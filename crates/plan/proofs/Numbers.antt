@@ -11,10 +11,10 @@ use Rattle.blocks.specs.Block.{headingAt, bodyFits}
 use Rattle.blocks.specs.declared.Part.{Part}
 use Rattle.blocks.specs.declared.Heading.{Heading}
 use Rattle.blocks.specs.declared.Heading.the-variants.{Whole, Cut}
-use Rattle.plan.specs.Types.{typesOk}
-use Rattle.plan.specs.Pairs.{pairsOk}
-use Rattle.plan.specs.NodeTests.{formsOk, namedOk, nestedOk}
-use Rattle.plan.specs.Rule.{ruleOk}
+use Rattle.bodies.specs.Types.{typesOk}
+use Rattle.bodies.specs.Pairs.{pairsOk}
+use Rattle.nodes.specs.NodeTests.{formsOk, namedOk, nestedOk}
+use Rattle.bodies.specs.Rule.{ruleOk}
 use Rattle.plan.specs.Reading.{lengthOk, fault, endOf, judged, bodyAt, onHeading, blockAt, onBlock, withRule, withNodes, withPairs, withTypes, readWithin}
 use Rattle.plan.specs.declared.Block.{Block}
 use Rattle.plan.specs.declared.Block.the-variants as block

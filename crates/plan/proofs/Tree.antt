@@ -13,12 +13,12 @@ use Rattle.process.specs.Process.{Kind, sequence, parallel, choice, compensatio
 use Rattle.process.specs.Forms.{formOf}
 use Rattle.process.specs.Leaves.{AsWritten, SomeLeaf, HasLeaf, Apart, Distinct}
 use Rattle.process.specs.Depth.{rightDepth, undoDepth}
-use Rattle.plan.specs.Nodes.{count, form, left, right, Side, on-left, on-right, Names, EachNamedOnce, Under, itself, NotNested, Descending}
+use Rattle.nodes.specs.Nodes.{count, form, left, right, Side, on-left, on-right, Names, EachNamedOnce, Under, itself, NotNested, Descending}
 use Rattle.plan.specs.Tree.{leafKind, leafOf, compositeOf, processAt, processOf}
 use Rattle.plan.specs.PlanFile.{Runnable}
 use Rattle.plan.specs.Demand1.{Drawn}
-use Rattle.plan.proofs.Fold.{node-ind, fold-leaf, fold-node}
-use Rattle.plan.proofs.Under.{through, first, all-under-last, apart}
+use Rattle.nodes.proofs.Fold.{node-ind, fold-leaf, fold-node}
+use Rattle.nodes.proofs.Under.{through, first, all-under-last, apart}
 
 module _ (types b : List ℕ) (down : Descending b) where
   abbrev at : ℕ → Process

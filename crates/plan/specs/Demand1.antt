@@ -7,7 +7,7 @@ use Prim.Native.Nat.{ℕ, _+_, _-_, _≤_, _<_}
 use lib.ListN.{length, take}
 use Rattle.process.specs.Leaves.{AsWritten, HasLeaf, Distinct}
 use Rattle.process.specs.Depth.{Flat}
-use Rattle.plan.specs.Nodes.{count, form, Under}
+use Rattle.nodes.specs.Nodes.{count, form, Under}
 use Rattle.plan.specs.PlanFile.{Bytes, PlanFile}
 use Rattle.plan.specs.Reading.{bytesOf, endOf, readOf}
 use Rattle.plan.specs.Tree.{processOf}

@@ -5,10 +5,10 @@ use mathlib.Core.Path.{_≡_}
 use Prim.Native.Nat.{ℕ, _*_, _≤_, _<_}
 use lib.ListN.{length, getD}
 use Rattle.blocks.specs.Block.{block}
-use Rattle.plan.specs.Types.{Types}
-use Rattle.plan.specs.Pairs.{Pairs}
-use Rattle.plan.specs.Nodes.{NodeRules}
-use Rattle.plan.specs.Rule.{Rule}
+use Rattle.bodies.specs.Types.{Types}
+use Rattle.bodies.specs.Pairs.{Pairs}
+use Rattle.nodes.specs.Nodes.{NodeRules}
+use Rattle.bodies.specs.Rule.{Rule}
 
 -- each element is a byte
 abbrev pub Bytes : List ℕ → Type 0

@@ -9,10 +9,10 @@ use Rattle.blocks.specs.Block.{headingAt, bodyFits}
 use Rattle.blocks.specs.declared.Part.{Part}
 use Rattle.blocks.specs.declared.Heading.{Heading}
 use Rattle.blocks.specs.declared.Heading.the-variants.{Whole, Cut}
-use Rattle.plan.specs.Types.{typesOk}
-use Rattle.plan.specs.Pairs.{pairsOk}
-use Rattle.plan.specs.NodeTests.{nodesFault}
-use Rattle.plan.specs.Rule.{ruleOk}
+use Rattle.bodies.specs.Types.{typesOk}
+use Rattle.bodies.specs.Pairs.{pairsOk}
+use Rattle.nodes.specs.NodeTests.{nodesFault}
+use Rattle.bodies.specs.Rule.{ruleOk}
 use Rattle.plan.specs.declared.Block.{Block}
 use Rattle.plan.specs.declared.Block.the-variants as block
 use Rattle.plan.specs.declared.Reading.{Reading}

@@ -2,11 +2,6 @@
 use blocks::Heading;
 use blocks::Part;
 
-mod nodes;
-mod pairs;
-mod rule;
-mod types;
-
 ghost use mathlib.Core.Path.{_≡_};
 ghost use Prim.Native.Nat.{_≤_, _+_};
 ghost use lib.ListN.{length};
@@ -72,13 +67,13 @@ fn fault_of(kind: u8, actions: usize, b: &[u8]) -> u8
     ensures { λ r. ⌜ r ≡ fault kind actions (now (b .entry)) ⌝ }
 {
     if kind == 1 {
-        if types::types_ok(b) {
+        if bodies::types::types_ok(b) {
             return 0;
         }
         return 4;
     }
     if kind == 2 {
-        if pairs::pairs_ok(b, actions) {
+        if bodies::pairs::pairs_ok(b, actions) {
             return 0;
         }
         return 5;
@@ -86,7 +81,7 @@ fn fault_of(kind: u8, actions: usize, b: &[u8]) -> u8
     if kind == 3 {
         return nodes::nodes_fault(b, actions);
     }
-    if rule::rule_ok(b, actions) {
+    if bodies::rule::rule_ok(b, actions) {
         return 0;
     }
     9

@@ -7,10 +7,9 @@ use Prim.Native.Nat.{ℕ, _<_}
 use native.Mathlib.Omega.{arith}
 use lib.Dec.{eqb}
 use borrow.Author.Tests.{eq-eqb, ne-eqb}
-use Rattle.blocks.specs.Bounded.{total}
+use Rattle.blocks.specs.Bounded.{total, one}
 use Rattle.blocks.proofs.Bounded.{total-has, total-none, total-single}
-use Rattle.plan.specs.Pairs.{Pairs, pairCount, first, second}
-use Rattle.plan.specs.NodeTests.{one}
+use Rattle.bodies.specs.Pairs.{Pairs, pairCount, first, second}
 use Rattle.rule.specs.Literal.{finished, undoneBy, undosFinished, literalOf, literal}
 use Rattle.rule.specs.Value.{neither}
 use Rattle.rule.specs.Laws.{paired, plain}

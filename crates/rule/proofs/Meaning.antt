@@ -8,9 +8,9 @@ use native.Mathlib.Omega.{arith}
 use lib.ListN.{length, length-append}
 use lib.Seq.{take-all}
 use borrow.Author.Tests.{ne-eqb}
-use Rattle.plan.specs.Pairs.{pairCount}
-use Rattle.plan.specs.Rule as rule
-use Rattle.plan.specs.Rule.{Rule}
+use Rattle.bodies.specs.Pairs.{pairCount}
+use Rattle.bodies.specs.Rule as rule
+use Rattle.bodies.specs.Rule.{Rule}
 use Rattle.rule.specs.declared.Value.{Value}
 use Rattle.rule.specs.Literal.{literal}
 use Rattle.rule.specs.Meaning.{swapped, both, either, meaning}

@@ -10,14 +10,11 @@ use native.Mathlib.Omega.{arith}
 use lib.Dec.{eqb}
 use lib.ListN.{take}
 use lib.Pow.{mod-pow-add}
-use Rattle.plan.specs.NodeTests.{one}
+use Rattle.blocks.specs.Bounded.{one}
+use Rattle.blocks.proofs.Bounded.{one-most}
 use Rattle.rule.specs.declared.Value.{Value}
 use Rattle.rule.specs.Value.{push, top, below}
 use Rattle.rule.specs.Words.{word}
-
-pub one-most : (t : Bool) → one t ≤ 1
-one-most true = omega arith
-one-most false = omega arith
 
 is-one : (t : Bool) → eqb (one t) 1 ≡ t
 is-one true = refl

@@ -5,8 +5,8 @@ use mathlib.Core.Bool.{Bool, true, false, not, _&&_, _||_}
 use mathlib.Core.List.{List, [], _∷_}
 use Prim.Native.Nat.{ℕ, _≤_, _<_}
 use lib.ListN.{length}
-use Rattle.plan.specs.Pairs.{Pairs, pairCount, first, second}
-use Rattle.plan.specs.Rule.{Rule}
+use Rattle.bodies.specs.Pairs.{Pairs, pairCount, first, second}
+use Rattle.bodies.specs.Rule.{Rule}
 use Rattle.rule.specs.declared.Value.{Value}
 use Rattle.rule.specs.Literal.{finished, literal}
 use Rattle.rule.specs.Meaning.{meaning}

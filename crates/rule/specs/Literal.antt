@@ -4,9 +4,8 @@ use mathlib.Core.Bool.{Bool, not, _&&_, _||_}
 use mathlib.Core.List.{List}
 use Prim.Native.Nat.{ℕ, _/_, _%_, _^_}
 use lib.Dec.{eqb}
-use Rattle.blocks.specs.Bounded.{total}
-use Rattle.plan.specs.Pairs.{pairCount, first, second}
-use Rattle.plan.specs.NodeTests.{one}
+use Rattle.blocks.specs.Bounded.{total, one}
+use Rattle.bodies.specs.Pairs.{pairCount, first, second}
 use Rattle.rule.specs.declared.Value.{Value}
 
 -- "An action counts as finished where its bit is in the set."

@@ -3,7 +3,7 @@
 use mathlib.Core.Bool.{_&&_, _||_}
 use mathlib.Core.List.{List}
 use Prim.Native.Nat.{ℕ}
-use Rattle.plan.specs.Rule.{Rule, action, not, and, or}
+use Rattle.bodies.specs.Rule.{Rule, action, not, and, or}
 use Rattle.rule.specs.declared.Value.{Value}
 use Rattle.rule.specs.Literal.{literal}
 

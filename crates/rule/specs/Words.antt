@@ -4,7 +4,7 @@ use mathlib.Core.Path.{_≡_}
 use mathlib.Core.Bool.{Bool}
 use mathlib.Core.List.{List, [], _∷_}
 use Prim.Native.Nat.{ℕ, _+_, _*_}
-use Rattle.plan.specs.NodeTests.{one}
+use Rattle.blocks.specs.Bounded.{one}
 use Rattle.rule.specs.declared.Value.{Value}
 use Rattle.rule.specs.declared.Stack.{Stack}
 

@@ -4,7 +4,7 @@ ghost use mathlib.Core.List.{List};
 ghost use mathlib.Core.Bool.{_&&_};
 ghost use Prim.Native.Nat.{_+_, _*_, _%_, _^_};
 ghost use lib.Dec.{eqb};
-ghost use Rattle.plan.specs.NodeTests.{one};
+ghost use Rattle.blocks.specs.Bounded.{one};
 ghost use Rattle.rule.specs.Literal.{finished, undosFinished, literal};
 ghost use Rattle.rule.specs.Meaning.{swapped, both, either};
 ghost use Rattle.rule.specs.Value.{push, top, below, step, satisfies};

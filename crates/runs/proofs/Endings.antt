@@ -2,8 +2,8 @@
 use mathlib.Core.Path.{_≡_, refl, sym, _∙_, ap}
 use mathlib.Core.Bool.{Bool, true, false, not, _||_, true≢false}
 use Rattle.process.specs.Process.{Status, ok, fail}
-use Rattle.runs.specs.declared.cells.Ended.{Ended}
-use Rattle.runs.specs.declared.cells.Ended.the-variants.{Open, Succeeded, Failed}
+use Rattle.runs.specs.declared.Ended.{Ended}
+use Rattle.runs.specs.declared.Ended.the-variants.{Open, Succeeded, Failed}
 use Rattle.runs.specs.Cells.{ending, isSucceeded, isFailed}
 
 abbrev pub hasRun : Ended → Bool

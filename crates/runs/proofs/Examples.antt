@@ -7,7 +7,7 @@ use native.Mathlib.Omega.{arith}
 use Rattle.process.proofs.Examples.{simpleOrder}
 use Rattle.process.specs.Process.{ok, fail, finishes, fails, either, sequence, compensation, Process, leaf, node, entry, Run}
 use Rattle.process.specs.Figure2.{f-done, f-leaf, f-sequence, f-compensation, Complete, c-ok, c-fail}
-use Rattle.runs.specs.declared.cells.Ended.the-variants.{Open, Succeeded, Failed}
+use Rattle.runs.specs.declared.Ended.the-variants.{Open, Succeeded, Failed}
 use Rattle.runs.specs.Cells.{toldEnded, toldNext}
 use Rattle.runs.specs.TwoLevels.{leafTwo, nodeTwo, toldTwo}
 use Rattle.runs.specs.Beginnings.{Beginnings}

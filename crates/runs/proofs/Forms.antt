@@ -7,8 +7,8 @@ use mathlib.Core.Logic.{inl, inr}
 use Prim.Native.Nat.{ℕ, zero, suc}
 use Rattle.process.specs.Process.{Status, ok, fail, Kind, finishes, fails, either, Permits, Form, sequence, parallel, choice, compensation, handler, Process, done, leaf, node, Run}
 use Rattle.process.specs.Figure2.{both, Interleaving, Forward, f-leaf, f-sequence, f-sequence-fails, f-parallel, f-parallel-left, f-parallel-right, f-choice-left, f-choice-right, f-compensation, f-compensation-fails, f-handler, f-handler-fails, Complete, c-fail}
-use Rattle.runs.specs.declared.cells.Ended.{Ended}
-use Rattle.runs.specs.declared.cells.Ended.the-variants.{Open, Succeeded, Failed}
+use Rattle.runs.specs.declared.Ended.{Ended}
+use Rattle.runs.specs.declared.Ended.the-variants.{Open, Succeeded, Failed}
 use Rattle.runs.specs.Cells.{ending, sequenceEnded, parallelEnded, handlerEnded}
 use Rattle.runs.proofs.Endings.{not-open, ending-one}
 use Rattle.runs.proofs.Marked.{Marked, m-done, m-node, fresh, unmarked, hasBegun, endedAs, in-sequence, in-parallel, undo, WholeEnds, ends-ok, Mode, forward, whole, at-leaf, Steps, still, first, in-turn, Reached, r-waits, r-leaf, r-left, r-both, r-going, r-undoing}

@@ -7,8 +7,8 @@ use Prim.Native.Nat.{ℕ}
 use lib.Dec.{eqb}
 use Rattle.process.specs.Process.{Status, ok, fail, Kind, Permits, Form, sequence, parallel, choice, compensation, handler, Process, done, leaf, node, Entry, entry, Run}
 use Rattle.process.specs.Figure2.{Interleaving}
-use Rattle.runs.specs.declared.cells.Ended.{Ended}
-use Rattle.runs.specs.declared.cells.Ended.the-variants.{Open, Succeeded, Failed}
+use Rattle.runs.specs.declared.Ended.{Ended}
+use Rattle.runs.specs.declared.Ended.the-variants.{Open, Succeeded, Failed}
 use Rattle.runs.proofs.Endings.{hasRun}
 use Rattle.runs.specs.Cells.{ending, isSucceeded, nodeBegun, nodeEnded, leftMay}
 

@@ -6,8 +6,8 @@ use mathlib.Core.Bool.{Bool, true, false, not}
 use mathlib.Core.Logic.{_⊎_, inl, inr}
 use Rattle.process.specs.Process.{fail, Form, sequence, parallel, choice, compensation, handler, Process, done, leaf, node, Entry, entry, Run}
 use Rattle.process.specs.Figure2.{Interleaving, neither, from-left, from-right}
-use Rattle.runs.specs.declared.cells.Ended.{Ended}
-use Rattle.runs.specs.declared.cells.Ended.the-variants.{Open, Succeeded, Failed}
+use Rattle.runs.specs.declared.Ended.{Ended}
+use Rattle.runs.specs.declared.Ended.the-variants.{Open, Succeeded, Failed}
 use Rattle.runs.specs.Cells.{isSucceeded, nodeBegun, nodeEnded}
 use Rattle.runs.proofs.Endings.{hasRun, ending-run, not-both, of-not, not-open, not-failed, or-true, or-false}
 use Rattle.runs.proofs.Marked.{Marked, m-done, m-leaf, m-node, fresh, unmarked, hasBegun, endedAs, joined, undo, nodeUndone, WholeEnds, ends-fail, mark, RightMay, Mode, forward, whole, leftMode, Step, at-leaf, on-left, on-right, going, undoing, Merged, in-turn, mixed, Reached, r-done, r-waits, r-leaf, r-left, r-both, r-going, r-undoing}

@@ -5,9 +5,9 @@ use mathlib.Core.Bool.{Bool, true, false, not, cond}
 use mathlib.Core.Logic.{inl, inr, _↔_}
 use Prim.Native.Nat.{ℕ, zero, suc}
 use Rattle.process.specs.Process.{Status, ok, fail, Kind, Permits, Form, sequence, parallel, choice, compensation, handler, Process, done, leaf, node, entry}
-use Rattle.runs.specs.declared.cells.Ended.{Ended}
-use Rattle.runs.specs.declared.cells.Ended.the-variants.{Open, Succeeded, Failed}
-use Rattle.runs.specs.declared.cells.Cell.{Cell}
+use Rattle.runs.specs.declared.Ended.{Ended}
+use Rattle.runs.specs.declared.Ended.the-variants.{Open, Succeeded, Failed}
+use Rattle.runs.specs.declared.Cell.{Cell}
 use Rattle.runs.specs.Cells.{ending, isSucceeded, isFailed, Outcomes, Holds, given, emptyCell, leafCell, leftMay, rightMay, nodeCell, joinCell, Levels, undoLevels, thenUndo, wholeEnded, wholeNext, leftNext, inTurn, nodeUndo, leafLevels, cellsOf}
 use Rattle.runs.proofs.Endings.{not-both, of-not, not-open, ending-one, of-succeeded, of-failed}
 use Rattle.runs.proofs.Marked.{Marked, m-done, m-leaf, m-node, unmarked, hasBegun, endedAs, isDone, Pairing, in-sequence, in-parallel, joined, undo, nodeUndone, WholeEnds, ends-ok, ends-fail, MarksUndo, RightMay, Mode, forward, whole, leftMode, Step, at-leaf, on-left, on-right, going, undoing}

@@ -8,7 +8,7 @@ use native.Mathlib.Omega.{arith}
 use borrow.Author.Tests.{eq-eqb, ne-eqb}
 use Rattle.process.specs.Process.{Status, Kind, Permits, Form, sequence, parallel, choice, compensation, handler, Process, done, leaf, node, entry}
 use Rattle.runs.specs.Cells.{isSucceeded}
-use Rattle.runs.specs.declared.cells.Ended.{Ended}
+use Rattle.runs.specs.declared.Ended.{Ended}
 use Rattle.runs.proofs.Marked.{Marked, m-done, m-leaf, m-node, unmarked, hasBegun, endedAs, isDone, Pairing, in-sequence, in-parallel, joined, undo, nodeUndone, mark, MarksUndo, Mode, whole, Step, at-leaf, on-left, on-right, going, undoing}
 use Rattle.process.specs.Leaves.{AsWritten, SomeLeaf, HasLeaf, LeafPermits, Apart, Distinct}
 use Rattle.process.specs.Depth.{rightDepth, undoDepth}

@@ -6,7 +6,7 @@ use mathlib.Core.List.{[], _∷_, _++_, append-assoc, append-nil}
 use Prim.Native.Nat.{ℕ}
 use Rattle.process.specs.Process.{Status, ok, fail, Form, parallel, Process, done, entry, Run}
 use Rattle.process.specs.Figure2.{Interleaving, neither, from-left, from-right, Forward, f-done, Complete, c-ok, c-fail}
-use Rattle.runs.specs.declared.cells.Ended.the-variants.{Failed}
+use Rattle.runs.specs.declared.Ended.the-variants.{Failed}
 use Rattle.runs.specs.Cells.{ending}
 use Rattle.runs.proofs.Endings.{not-failed}
 use Rattle.runs.proofs.Marked.{Marked, m-done, m-node, fresh, unmarked, endedAs, undo, WholeEnds, ends-ok, ends-fail, mark, LeftMay, RightMay, Mode, forward, whole, leftMode, on-left, on-right, going, undoing, Steps, still, first, Reached, r-done, r-going, r-undoing}

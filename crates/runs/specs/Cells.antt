@@ -11,9 +11,9 @@ use Prim.Native.Nat.{ℕ, zero, suc, _/_, _%_, _^_}
 use lib.Bits.{bitOr}
 use lib.Dec.{eqb}
 use Rattle.process.specs.Process.{Status, ok, fail, Form, sequence, parallel, choice, compensation, handler, Process, done, leaf, node, entry, Run}
-use Rattle.runs.specs.declared.cells.Ended.{Ended}
-use Rattle.runs.specs.declared.cells.Ended.the-variants.{Open, Succeeded, Failed}
-use Rattle.runs.specs.declared.cells.Cell.{Cell}
+use Rattle.runs.specs.declared.Ended.{Ended}
+use Rattle.runs.specs.declared.Ended.the-variants.{Open, Succeeded, Failed}
+use Rattle.runs.specs.declared.Cell.{Cell}
 
 -- By a test.
 -- Ended with the report's ✓ or ×.

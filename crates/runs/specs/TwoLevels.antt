@@ -5,11 +5,11 @@ use mathlib.Core.List.{[], _∷_, _++_}
 use Prim.Native.Nat.{ℕ, zero, suc, _<_}
 use lib.Dec.{eqb, ltb}
 use Rattle.process.specs.Process.{Status, Kind, Form, sequence, parallel, choice, compensation, handler, Process, leaf, node, entry, Run}
-use Rattle.runs.specs.declared.cells.Ended.{Ended}
-use Rattle.runs.specs.declared.cells.Cells.{Cells}
-use Rattle.runs.specs.declared.cells.Told.{Told}
-use Rattle.runs.specs.declared.cells.Composite.{Composite}
-use Rattle.runs.specs.declared.cells.Composite.the-variants.{Sequence, Parallel, Choice, Compensation, Handler}
+use Rattle.runs.specs.declared.Ended.{Ended}
+use Rattle.runs.specs.declared.Cells.{Cells}
+use Rattle.runs.specs.declared.Told.{Told}
+use Rattle.runs.specs.declared.Composite.{Composite}
+use Rattle.runs.specs.declared.Composite.the-variants.{Sequence, Parallel, Choice, Compensation, Handler}
 use Rattle.runs.specs.Cells.{Outcomes, noneRun, setOutcome, outcomesAfter, emptyCell, Levels, wholeEnded, wholeNext, nodeLevels, leafLevels, cellsOf, toldEnded, toldNext}
 use Rattle.process.specs.Forms.{formOf}
 use mathlib.Core.Bool.{cond}

@@ -9,12 +9,12 @@ use native.Mathlib.Omega.{arith}
 use lib.ListN.{getD, length}
 use borrow.Author.Tests.{le-leb}
 use Rattle.family.proofs.Numbers.{same-or-other}
-use Rattle.plan.specs.Nodes.{count}
+use Rattle.nodes.specs.Nodes.{count}
 use Rattle.plan.specs.Tree.{processAt}
 use Rattle.summary.specs.declared.Summary.{Summary}
-use Rattle.summary.specs.Area.{StoreAnswer}
+use Rattle.area.specs.Area.{StoreAnswer}
 use Rattle.summary.specs.Exact.{Exact}
-use Rattle.summary.proofs.Areas.{load-after-store}
+use Rattle.area.proofs.Areas.{load-after-store}
 use Rattle.sets.specs.PlanSets.{leafSet}
 use Rattle.sets.specs.Fill.{Holds}
 

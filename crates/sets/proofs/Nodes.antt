@@ -9,7 +9,7 @@ use lib.Dec.{T, eqb, ltb, ltb→lt}
 use borrow.Author.Tests.{eqb-true, eqb-false}
 use Rattle.family.proofs.Numbers.{at-number}
 use Rattle.process.specs.Process.{ok, fail, permits}
-use Rattle.plan.specs.Nodes.{count, form, left, right}
+use Rattle.nodes.specs.Nodes.{count, form, left, right}
 use Rattle.plan.specs.PlanFile.{Runnable}
 use Rattle.plan.specs.Tree.{leafKind, processAt}
 use Rattle.plan.proofs.Tree.{process-leaf, process-node, parts-smaller}

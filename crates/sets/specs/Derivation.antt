@@ -6,7 +6,7 @@ use lib.Bits.{bitOr}
 use lib.ListN.{getD}
 use Rattle.outcomes.specs.Cells.{cell}
 use Rattle.outcomes.specs.Families.{InFamily}
-use Rattle.plan.specs.Nodes.{count, form, left, right}
+use Rattle.nodes.specs.Nodes.{count, form, left, right}
 use Rattle.plan.specs.Tree.{processAt}
 use Rattle.sets.specs.PlanSets.{actionSets}
 

@@ -4,9 +4,9 @@ use mathlib.Core.Path.{_≡_}
 use mathlib.Core.List.{List}
 use Prim.Native.Nat.{ℕ, _*_, _<_, _≤_}
 use lib.ListN.{getD, length}
-use Rattle.plan.specs.Nodes.{count}
+use Rattle.nodes.specs.Nodes.{count}
 use Rattle.plan.specs.Tree.{processAt}
-use Rattle.summary.specs.Area.{loaded}
+use Rattle.area.specs.Area.{loaded}
 use Rattle.summary.specs.Exact.{Exact}
 use Rattle.sets.specs.PlanSets.{leafSet}
 

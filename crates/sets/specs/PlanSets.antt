@@ -5,7 +5,7 @@ use Prim.Native.Nat.{ℕ, _^_}
 use lib.Dec.{eqb}
 use Rattle.outcomes.specs.Sets.{Sets, numbers}
 use Rattle.outcomes.specs.Families.{planSets}
-use Rattle.plan.specs.Nodes.{form, left}
+use Rattle.nodes.specs.Nodes.{form, left}
 use Rattle.plan.specs.Tree.{processOf}
 
 -- The set that leaf n adds where it finishes: "its action's bit alone (skip: the empty set)". A throw never finishes.

@@ -2,7 +2,7 @@
 ghost use mathlib.Core.Path.{_≡_};
 ghost use Prim.Native.Nat.{_*_, _≤_, _<_};
 ghost use lib.ListN.{length};
-ghost use Rattle.plan.specs.Nodes.{count, form, left};
+ghost use Rattle.nodes.specs.Nodes.{count, form, left};
 ghost use Rattle.plan.specs.PlanFile.{Runnable};
 ghost use Rattle.plan.specs.Tree.{processAt};
 ghost use Rattle.summary.specs.Exact.{Exact};
@@ -44,8 +44,8 @@ fn summary_of(types: &[u8], nodes: &[u8], work: &[u8], n: usize) -> Summary
     let r = blocks::wide(nodes[3 * n + 2]);
     summary::node(
         f,
-        summary::area::load(work, l),
-        summary::area::load(work, r),
+        area::load(work, l),
+        area::load(work, r),
     )
 }
 
@@ -58,7 +58,7 @@ pub fn fill(types: &[u8], nodes: &[u8], work: &mut [u8])
     let mut i = 0;
     while i < n {
         let s = summary_of(types, nodes, work, i);
-        summary::area::store(work, i, s);
+        area::store(work, i, s);
         i += 1;
     }
 }

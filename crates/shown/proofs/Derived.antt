@@ -18,10 +18,10 @@ use Rattle.outcomes.proofs.Shown.{Shown, shown-none, shown-done, shown-done-und
 use Rattle.outcomes.proofs.Families.{two-levels}
 use Rattle.outcomes.proofs.ActionSets.{numbers-lawful}
 use Rattle.summary.proofs.Exact.{same-number}
-use Rattle.plan.specs.Nodes.{count, form, left, right}
+use Rattle.nodes.specs.Nodes.{count, form, left, right}
 use Rattle.plan.specs.Tree.{leafKind, processAt, processOf}
 use Rattle.plan.specs.PlanFile.{Runnable}
-use Rattle.plan.proofs.Fold.{node-ind, fold-leaf, fold-node}
+use Rattle.nodes.proofs.Fold.{node-ind, fold-leaf, fold-node}
 use Rattle.plan.proofs.Tree.{process-leaf, process-node, parts-smaller, drawn}
 use Rattle.sets.specs.PlanSets.{leafSet, actionSets}
 use Rattle.sets.specs.Derivation.{Derivation}

@@ -7,9 +7,9 @@ use native.Mathlib.Nat.{not-suc-le-zero}
 use native.Mathlib.Omega.{arith}
 use lib.Dec.{ltb}
 use lib.ListN.{length, getD, set, length-set}
-use Rattle.plan.specs.Nodes.{count, form, left, right, Descending}
-use Rattle.plan.specs.Fold.{foldAt}
-use Rattle.plan.proofs.Fold.{fold-entry, table-more}
+use Rattle.nodes.specs.Nodes.{count, form, left, right, Descending}
+use Rattle.nodes.specs.Fold.{foldAt}
+use Rattle.nodes.proofs.Fold.{fold-entry, table-more}
 
 module _ {A : Type 0} (leaf : ℕ → A) (node : ℕ → A → A → A) (b : List ℕ) (blank : A) where
   pub record Filled (i : ℕ) (table : List A) : Type 0 where

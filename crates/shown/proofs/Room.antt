@@ -14,10 +14,10 @@ use Rattle.outcomes.proofs.Levels.{whole, joined, joined-interleaves}
 use Rattle.outcomes.proofs.Shown.{Shown, shown-none, shown-done, shown-done-undone, shown-leaf, shown-leaf-undone, shown-node}
 use Rattle.runs.specs.Beginnings.{sumOfLeaves, occurrences}
 use Rattle.runs.proofs.Counts.{sum-append, leaf-once}
-use Rattle.plan.specs.Nodes.{count, left, right}
+use Rattle.nodes.specs.Nodes.{count, left, right}
 use Rattle.plan.specs.Tree.{processAt}
 use Rattle.plan.specs.PlanFile.{Runnable}
-use Rattle.plan.proofs.Fold.{node-ind}
+use Rattle.nodes.proofs.Fold.{node-ind}
 use Rattle.plan.proofs.Tree.{process-leaf, process-node, distinct, parts-smaller}
 use Rattle.job.proofs.Room.{Below, once-few}
 

@@ -8,8 +8,8 @@ use lib.ListN.{length, getD, take}
 use Rattle.blocks.specs.Area.{fits, placed}
 use Rattle.process.specs.Process.{ok, fail, Form, sequence, parallel, choice, compensation, handler, entry, Run}
 use Rattle.process.specs.Forms.{formOf}
-use Rattle.plan.specs.Nodes.{count, form}
-use Rattle.plan.specs.Fold.{foldAt}
+use Rattle.nodes.specs.Nodes.{count, form}
+use Rattle.nodes.specs.Fold.{foldAt}
 use Rattle.shown.specs.Shows.{encode, recordBytes}
 use Rattle.shown.specs.declared.Trace.{Trace}
 use Rattle.shown.specs.declared.Levels.{Levels}

@@ -7,12 +7,12 @@ use native.Mathlib.Nat.{not-suc-le-zero}
 use native.Mathlib.Omega.{arith}
 use lib.Dec.{ltb}
 use lib.ListN.{length, getD, set, length-set}
-use Rattle.plan.specs.Nodes.{count, form, left, right, Descending}
-use Rattle.plan.proofs.Fold.{fold-entry, table-more}
+use Rattle.nodes.specs.Nodes.{count, form, left, right, Descending}
+use Rattle.nodes.proofs.Fold.{fold-entry, table-more}
 use Rattle.runs.specs.TwoLevels.{leafTwo, nodeTwo}
-use Rattle.runs.specs.declared.cells.Ended.the-variants.{Open}
-use Rattle.runs.specs.declared.cells.Cell.{Cell}
-use Rattle.runs.specs.declared.cells.Cells.{Cells}
+use Rattle.runs.specs.declared.Ended.the-variants.{Open}
+use Rattle.runs.specs.declared.Cell.{Cell}
+use Rattle.runs.specs.declared.Cells.{Cells}
 use Rattle.state.specs.State.{outcomeOf, leafCells, nodeCells, cellsAt}
 
 -- what stands past the end of an array of cells

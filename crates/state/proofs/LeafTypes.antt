@@ -8,7 +8,7 @@ use lib.Dec.{eqb}
 use lib.ListN.{getD}
 use borrow.Author.Tests.{eqb-true, eqb-false}
 use Rattle.process.specs.Process.{Status, ok, fail, finishes, fails, either, permits}
-use Rattle.plan.specs.Nodes.{form, left}
+use Rattle.nodes.specs.Nodes.{form, left}
 use Rattle.plan.specs.Tree.{typeKind, leafKind}
 use Rattle.state.specs.State.{leafType}
 

@@ -6,7 +6,7 @@ use Prim.Native.Nat.{ℕ, _<_}
 use native.Mathlib.Omega.{arith}
 use borrow.Author.Tests.{ltb-true}
 use Rattle.blocks.proofs.Bounded.{both-true}
-use Rattle.plan.specs.Nodes.{count, form}
+use Rattle.nodes.specs.Nodes.{count, form}
 use Rattle.plan.specs.PlanFile.{Runnable}
 use Rattle.state.proofs.Sides.{leaf-small}
 use Rattle.state.specs.State.{leafPermits, mayCome}

@@ -9,8 +9,8 @@ use native.Mathlib.Omega.{arith}
 use lib.Dec.{eqb, ltb}
 use borrow.Author.Tests.{eqb-true, eqb-false, ltb-true, ltb-false}
 use Rattle.blocks.proofs.Bounded.{decide}
-use Rattle.plan.specs.Nodes.{count, form, left, right, Side, Names, Under}
-use Rattle.plan.proofs.Under.{first, all-under-last}
+use Rattle.nodes.specs.Nodes.{count, form, left, right, Side, Names, Under}
+use Rattle.nodes.proofs.Under.{first, all-under-last}
 use Rattle.plan.proofs.Tree.{parts-smaller}
 use Rattle.plan.specs.PlanFile.{Runnable}
 

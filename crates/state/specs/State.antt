@@ -5,13 +5,13 @@ use mathlib.Core.List.{List, [], _∷_}
 use Prim.Native.Nat.{ℕ, zero, suc, _+_, _-_, _*_, _/_, _%_, _^_}
 use lib.Dec.{ltb, eqb}
 use lib.ListN.{getD, set, replicate}
-use Rattle.plan.specs.Nodes.{count, form, left}
-use Rattle.plan.specs.Fold.{foldAt}
+use Rattle.nodes.specs.Nodes.{count, form, left}
+use Rattle.nodes.specs.Fold.{foldAt}
 use Rattle.runs.specs.TwoLevels.{leafTwo, nodeTwo, toldTwo}
-use Rattle.runs.specs.declared.cells.Ended.{Ended}
-use Rattle.runs.specs.declared.cells.Ended.the-variants.{Open, Succeeded, Failed}
-use Rattle.runs.specs.declared.cells.Cells.{Cells}
-use Rattle.runs.specs.declared.cells.Told.{Told}
+use Rattle.runs.specs.declared.Ended.{Ended}
+use Rattle.runs.specs.declared.Ended.the-variants.{Open, Succeeded, Failed}
+use Rattle.runs.specs.declared.Cells.{Cells}
+use Rattle.runs.specs.declared.Told.{Told}
 use Rattle.state.specs.declared.Entry.{Entry}
 use Rattle.state.specs.declared.Replayed.{Replayed}
 

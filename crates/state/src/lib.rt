@@ -1,8 +1,8 @@
 // The state of a job after its record: the outcomes of the leaves, and what the cells tell by them.
-use runs::cells::Cell;
-use runs::cells::Cells;
-use runs::cells::Ended;
-use runs::cells::Told;
+use runs::Cell;
+use runs::Cells;
+use runs::Ended;
+use runs::Told;
 ghost use mathlib.Core.Path.{_≡_};
 ghost use Prim.Native.Nat.{_<_, _≤_};
 ghost use lib.Dec.{ltb};
@@ -10,7 +10,7 @@ ghost use lib.ListN.{length};
 ghost use mathlib.Core.Bool.{cond};
 ghost use Rattle.runs.specs.TwoLevels.{leafTwo, nodeTwo};
 ghost use Rattle.plan.specs.PlanFile.{Runnable};
-ghost use Rattle.plan.specs.Nodes.{count};
+ghost use Rattle.nodes.specs.Nodes.{count};
 ghost use Rattle.state.specs.State.{outcomeOf, cellsAt, toldBy, leafType, typePermits, isNext, leafPermits, mayCome, stateAfter};
 
 // An entry of a run: the leaf's node number, then 1 (finished) or 2 (failed).
@@ -42,9 +42,9 @@ fn cell_of(i: usize, f: u8, outcome: u8, x: Cells, y: Cells) -> Cells
     ensures { λ r. ⌜ r ≡ cond (ltb f 3) (leafTwo i (outcomeOf outcome)) (nodeTwo f x y) ⌝ }
 {
     if f < 3 {
-        return runs::cells::leaf_cells(i, outcome_of(outcome));
+        return cells::leaf_cells(i, outcome_of(outcome));
     }
-    runs::cells::node_cells(f, x, y)
+    cells::node_cells(f, x, y)
 }
 
 // What the whole process tells.
@@ -72,7 +72,7 @@ pub fn told_by(types: &[u8], nodes: &[u8], table: &[u8; 63]) -> Told
         cells[i] = v;
         i += 1;
     }
-    runs::cells::tell(cells[n - 1])
+    cells::tell(cells[n - 1])
 }
 
 fn type_permits(kind: u8, outcome: u8) -> bool

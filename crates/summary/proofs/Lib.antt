@@ -2,5 +2,4 @@ pub mod Codes
 pub mod Leaves
 pub mod Rows
 pub mod Sides
-pub mod Areas
 pub mod Exact

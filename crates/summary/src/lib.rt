@@ -1,12 +1,11 @@
-// A node's summary: for each of the codes 1 to 6 the family of the action sets that the outcome chart gives it. The summary of a leaf, of
-// a node from those of its two sides; and summaries in a lent area.
+// A node's summary: for each of the codes 1 to 6 the family of the action sets that the outcome chart gives it. The summary of a leaf, and
+// of a node from those of its two sides.
 ghost use mathlib.Core.Path.{_≡_};
 ghost use Prim.Native.Nat.{ℕ, _<_};
 ghost use Rattle.summary.specs.Summary.{familyOf, Only, LeafSummary};
 ghost use Rattle.summary.specs.Node.{Gathered, Under, NodeSummary};
 ghost use Rattle.summary.specs.Row.{Row, Rows, Grown, LeftAdded};
 
-pub mod area;
 mod row;
 
 // The families of the codes 1 to 6. Code 0, not run, has the empty set alone.

@@ -3,7 +3,7 @@ use mathlib.Core.Path.{_≡_, subst}
 use Prim.Native.Nat.{ℕ, _+_, _-_, _<_}
 use lib.ListN.{replicate}
 use lib.Seq.{getD-set-same}
-use Rattle.plan.specs.Nodes.{count}
+use Rattle.nodes.specs.Nodes.{count}
 use Rattle.derivation.proofs.Descent.{Passed, passed-none, turn, passed-more, passed-all}
 use borrow.Author.Needs.{needs}
 use native.Mathlib.Omega.{arith}

@@ -2,9 +2,9 @@
 use mathlib.Core.Path.{_≡_}
 use Prim.Native.Nat.{_<_}
 use lib.ListN.{length, length-map}
-use Rattle.plan.specs.Nodes.{form, left, right}
+use Rattle.nodes.specs.Nodes.{form, left, right}
 use Rattle.state.proofs.Sides.{left-small, right-small}
-use Rattle.summary.specs.Area.{loaded}
+use Rattle.area.specs.Area.{loaded}
 use Rattle.derivation.specs.Search.{PartsOf}
 use Rattle.derivation.specs.Step.{codeAt, setAt}
 use Rattle.derivation.proofs.Parts.{step-leaf, step-parts}

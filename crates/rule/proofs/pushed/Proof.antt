@@ -2,7 +2,7 @@
 use mathlib.Core.Path.{_∙_, ap}
 use Prim.Native.Nat.{ℕ, _+_, _*_, _%_, _^_}
 use borrow.Author.Needs.{needs}
-use Rattle.plan.specs.NodeTests.{one}
+use Rattle.blocks.specs.Bounded.{one}
 use Rattle.rule.proofs.Words.{word-push}
 use Rattle.rule.proofs.pushed.Statement.{statement}
 use Rattle.rule.proofs.pushed.Tie as tie

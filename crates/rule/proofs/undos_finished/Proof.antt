@@ -2,12 +2,10 @@
 use mathlib.Core.Path.{_≡_, refl}
 use mathlib.Core.List.{List}
 use Prim.Native.Nat.{ℕ, _-_, _≤_}
-use Rattle.blocks.specs.Bounded.{total}
-use Rattle.blocks.proofs.Bounded.{total-more}
-use Rattle.plan.specs.Pairs.{pairCount}
-use Rattle.plan.specs.NodeTests.{one}
+use Rattle.blocks.specs.Bounded.{total, one}
+use Rattle.blocks.proofs.Bounded.{total-more, one-most}
+use Rattle.bodies.specs.Pairs.{pairCount}
 use Rattle.rule.specs.Literal.{undoneBy}
-use Rattle.rule.proofs.Words.{one-most}
 use borrow.Author.Needs.{needs}
 use native.Mathlib.Omega.{arith}
 use Rattle.rule.proofs.undos_finished.Statement.{statement}

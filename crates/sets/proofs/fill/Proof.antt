@@ -4,7 +4,7 @@ use Prim.Native.Nat.{_-_, _≤_}
 use native.Mathlib.Omega.{arith}
 use lib.ListN.{length}
 use borrow.Author.Needs.{needs}
-use Rattle.plan.specs.Nodes.{count}
+use Rattle.nodes.specs.Nodes.{count}
 use Rattle.sets.proofs.Filling.{Filling, filling-none, filling-more}
 use Rattle.sets.proofs.fill.Statement.{statement}
 use Rattle.sets.proofs.fill.Tie as tie

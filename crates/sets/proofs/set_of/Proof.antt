@@ -5,7 +5,7 @@ use native.Mathlib.Omega.{arith}
 use borrow.Author.Needs.{needs}
 use borrow.Author.Tests.{eqb-true, eq-eqb, ne-eqb}
 use Rattle.family.proofs.Bits.{one-shifted}
-use Rattle.plan.specs.Nodes.{left}
+use Rattle.nodes.specs.Nodes.{left}
 use Rattle.sets.proofs.set_of.Statement.{statement}
 use Rattle.sets.proofs.set_of.Tie as tie
 

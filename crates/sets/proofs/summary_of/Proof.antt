@@ -3,9 +3,9 @@ use mathlib.Core.Path.{_≡_, sym}
 use Prim.Native.Nat.{_≤_}
 use native.Mathlib.Omega.{arith}
 use borrow.Author.Needs.{needs}
-use Rattle.plan.specs.Nodes.{form, left, right}
+use Rattle.nodes.specs.Nodes.{form, left, right}
 use Rattle.plan.proofs.Tree.{parts-smaller}
-use Rattle.summary.specs.Area.{loaded}
+use Rattle.area.specs.Area.{loaded}
 use Rattle.sets.proofs.Nodes.{node-exact}
 use Rattle.sets.proofs.summary_of.Statement.{statement}
 use Rattle.sets.proofs.summary_of.Tie as tie

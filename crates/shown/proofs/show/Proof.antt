@@ -8,7 +8,7 @@ use native.Mathlib.Omega.{arith}
 use lib.Dec.{ltb}
 use lib.ListN.{length, getD}
 use borrow.Author.Needs.{needs}
-use Rattle.plan.specs.Nodes.{count, form, left, right}
+use Rattle.nodes.specs.Nodes.{count, form, left, right}
 use Rattle.plan.proofs.Tree.{parts-smaller}
 use Rattle.state.proofs.Sides.{left-small, right-small}
 use Rattle.shown.specs.Levels.{appended, leafAt, nodeAt}

@@ -6,7 +6,7 @@ use mathlib.Core.Bool.{cond}
 use lib.Dec.{ltb}
 use lib.ListN.{length, getD}
 use borrow.Author.Needs.{needs}
-use Rattle.plan.specs.Nodes.{count, form, left, right}
+use Rattle.nodes.specs.Nodes.{count, form, left, right}
 use Rattle.plan.proofs.Tree.{parts-smaller}
 use Rattle.runs.specs.TwoLevels.{leafTwo, nodeTwo, toldTwo}
 use Rattle.state.specs.State.{outcomeOf, toldBy}

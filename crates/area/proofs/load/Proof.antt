@@ -1,0 +1,76 @@
+-- `summary::area::load` meets its contract: six families, where the area has room for them.
+use Rattle.area.proofs.Areas.{no-room, room}
+use borrow.Author.Needs.{needs}
+use Rattle.area.proofs.load.Statement.{statement}
+use Rattle.area.proofs.load.Tie as tie
+
+returns : tie.Need-returns
+returns c = let a = c .before .before .args in rw (no-room (a .area .now) (a .i) (c .if1 .taken))
+
+mul-at : tie.Need-mul-at
+mul-at c = search needs
+
+load-family-requires : tie.Need-load-family-requires
+load-family-requires c κs = search needs
+
+add-load-family : tie.Need-add-load-family
+add-load-family c = search needs
+
+load-family-requires-2 : tie.Need-load-family-requires-2
+load-family-requires-2 c κs = search needs
+
+add-load-family-2 : tie.Need-add-load-family-2
+add-load-family-2 c = search needs
+
+load-family-requires-3 : tie.Need-load-family-requires-3
+load-family-requires-3 c κs = search needs
+
+add-load-family-3 : tie.Need-add-load-family-3
+add-load-family-3 c = search needs
+
+load-family-requires-4 : tie.Need-load-family-requires-4
+load-family-requires-4 c κs = search needs
+
+add-load-family-4 : tie.Need-add-load-family-4
+add-load-family-4 c = search needs
+
+load-family-requires-5 : tie.Need-load-family-requires-5
+load-family-requires-5 c κs = search needs
+
+add-load-family-5 : tie.Need-add-load-family-5
+add-load-family-5 c = search needs
+
+load-family-requires-6 : tie.Need-load-family-requires-6
+load-family-requires-6 c κs = search needs
+
+returns-2 : tie.Need-returns-2
+returns-2 c =
+    let a = c .before .before .before .before .before .before .before .before .args in
+    rw (room (a .area .now) (a .i) (c .before .before .before .before .before .before .if1 .left))
+    (λ t. record {
+      s1 = c .before .before .before .before .before .load-family .ensures t;
+      s2 = c .before .before .before .before .load-family2 .ensures t;
+      s3 = c .before .before .before .load-family3 .ensures t;
+      s4 = c .before .before .load-family4 .ensures t;
+      s5 = c .before .load-family5 .ensures t;
+      s6 = c .load-family6 .ensures t;
+    })
+
+pub load-spec : {M : Type 1} → statement M
+load-spec =
+    tie.close
+    (tie.spec
+    returns
+    mul-at
+    load-family-requires
+    add-load-family
+    load-family-requires-2
+    add-load-family-2
+    load-family-requires-3
+    add-load-family-3
+    load-family-requires-4
+    add-load-family-4
+    load-family-requires-5
+    add-load-family-5
+    load-family-requires-6
+    returns-2)

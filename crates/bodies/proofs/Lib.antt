@@ -1,0 +1,3 @@
+pub mod TypesPairs
+pub mod Scan
+pub mod Postfix

@@ -1,0 +1,16 @@
+-- `plan::pairs::apart_ok` meets its contract: each return by the tests that led there.
+use borrow.Author.Tests.{eq-eqb, ne-eqb}
+use Rattle.bodies.proofs.pairs.apart_ok.Statement.{statement}
+use Rattle.bodies.proofs.pairs.apart_ok.Tie as tie
+
+returns : tie.Need-returns
+returns c = simp (eq-eqb _ _ (c .if1 .taken))
+
+returns-2 : tie.Need-returns-2
+returns-2 c = simp (eq-eqb _ _ (c .if2 .taken), ne-eqb _ _ (c .before .if1 .left))
+
+returns-3 : tie.Need-returns-3
+returns-3 c = simp (ne-eqb _ _ (c .if2 .left), ne-eqb _ _ (c .before .if1 .left))
+
+pub apart-ok-spec : {M : Type 1} → statement M
+apart-ok-spec = tie.close (tie.spec returns returns-2 returns-3)

@@ -1,0 +1,3 @@
+pub mod Types
+pub mod Pairs
+pub mod Rule

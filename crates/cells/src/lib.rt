@@ -1,0 +1,275 @@
+// The cells of a process: where it stands after some entries of a run, from the cells of its sides alone. The specs of `runs` say what
+// they are; here two levels, forward and undo, which is what a plan file needs. Undos with a compensation in them need a third level.
+use runs::Cell;
+use runs::Cells;
+use runs::Composite;
+use runs::Ended;
+use runs::Told;
+
+ghost use mathlib.Core.Path.{_≡_};
+ghost use Rattle.runs.specs.Cells.{isSucceeded, isFailed, given, nodeBegun, nodeEnded, leftMay, rightMay, nodeCell, joinCell, thenUndo, leftNext};
+ghost use Rattle.runs.specs.TwoLevels.{compositeForm, leafTwo, formTwo, nodeTwo, toldTwo};
+ghost use Rattle.process.specs.Forms.{formOf};
+
+// A parallel of which one side has failed and the other has not begun: it may end so.
+const ONE_SIDE: Ended = Ended::Failed;
+
+fn given(test: bool, leaves: u64) -> u64
+    ensures { λ r. ⌜ r ≡ given test leaves ⌝ }
+{
+    if test { leaves } else { 0 }
+}
+
+fn node_begun(form: Composite, x: bool, y: bool) -> bool
+    ensures { λ r. ⌜ r ≡ nodeBegun (compositeForm form) x y ⌝ }
+{
+    match form {
+        Composite::Sequence => x || y,
+        Composite::Parallel => x || y,
+        Composite::Choice => x || y,
+        Composite::Compensation => x,
+        Composite::Handler => x,
+    }
+}
+
+fn node_ended(form: Composite, x: Ended, x_begun: bool, y: Ended, y_begun: bool) -> Ended
+    ensures { λ r. ⌜ r ≡ nodeEnded (compositeForm form) x «x_begun» y «y_begun» ⌝ }
+{
+    match form {
+        Composite::Sequence => match x {
+            Ended::Open => Ended::Open,
+            Ended::Succeeded => y,
+            Ended::Failed => Ended::Failed,
+        },
+        Composite::Parallel => match x {
+            Ended::Open => match y {
+                Ended::Open => Ended::Open,
+                Ended::Succeeded => Ended::Open,
+                Ended::Failed => { if x_begun { Ended::Open } else { ONE_SIDE } }
+            },
+            Ended::Succeeded => match y {
+                Ended::Open => Ended::Open,
+                Ended::Succeeded => Ended::Succeeded,
+                Ended::Failed => Ended::Failed,
+            },
+            Ended::Failed => match y {
+                Ended::Open => { if y_begun { Ended::Open } else { ONE_SIDE } }
+                Ended::Succeeded => Ended::Failed,
+                Ended::Failed => Ended::Failed,
+            },
+        },
+        Composite::Choice => { if y_begun { y } else { x } }
+        Composite::Compensation => x,
+        Composite::Handler => match x {
+            Ended::Open => Ended::Open,
+            Ended::Succeeded => Ended::Succeeded,
+            Ended::Failed => y,
+        },
+    }
+}
+
+fn left_may(form: Composite, y_begun: bool) -> bool
+    ensures { λ r. ⌜ r ≡ leftMay (compositeForm form) «y_begun» ⌝ }
+{
+    match form {
+        Composite::Sequence => !y_begun,
+        Composite::Parallel => true,
+        Composite::Choice => !y_begun,
+        Composite::Compensation => true,
+        Composite::Handler => !y_begun,
+    }
+}
+
+fn is_succeeded(x: Ended) -> bool
+    ensures { λ r. ⌜ r ≡ isSucceeded x ⌝ }
+{
+    match x {
+        Ended::Open => false,
+        Ended::Succeeded => true,
+        Ended::Failed => false,
+    }
+}
+
+fn is_failed(x: Ended) -> bool
+    ensures { λ r. ⌜ r ≡ isFailed x ⌝ }
+{
+    match x {
+        Ended::Open => false,
+        Ended::Succeeded => false,
+        Ended::Failed => true,
+    }
+}
+
+fn right_may(form: Composite, x: Ended, x_begun: bool, x_over: bool) -> bool
+    ensures { λ r. ⌜ r ≡ rightMay (compositeForm form) x «x_begun» «x_over» ⌝ }
+{
+    match form {
+        Composite::Sequence => is_succeeded(x),
+        Composite::Parallel => true,
+        Composite::Choice => !x_begun,
+        Composite::Compensation => false,
+        Composite::Handler => x_over,
+    }
+}
+
+fn node_cell(form: Composite, x: Cell, y: Cell, x_next: u64, x_over: bool) -> Cell
+    ensures { λ r. ⌜ r ≡ nodeCell (compositeForm form) x y «x_next» «x_over» ⌝ }
+{
+    let x_ended = x.ended;
+    let y_ended = y.ended;
+    let left = given(left_may(form, y.begun), x_next);
+    let right = given(right_may(form, x_ended, x.begun, x_over), y.next);
+    Cell {
+        empty: false,
+        begun: node_begun(form, x.begun, y.begun),
+        ended: node_ended(form, x_ended, x.begun, y_ended, y.begun),
+        next: left | right,
+    }
+}
+
+fn join_cell(form: Composite, x: Cell, y: Cell) -> Cell
+    ensures { λ r. ⌜ r ≡ joinCell (compositeForm form) x y ⌝ }
+{
+    if x.empty {
+        y
+    } else if y.empty {
+        x
+    } else {
+        node_cell(form, x, y, x.next, false)
+    }
+}
+
+fn then_undo(x: Ended, undone: Ended) -> Ended
+    ensures { λ r. ⌜ r ≡ thenUndo x undone ⌝ }
+{
+    match x {
+        Ended::Open => Ended::Open,
+        Ended::Succeeded => Ended::Succeeded,
+        Ended::Failed => match undone {
+            Ended::Open => Ended::Open,
+            Ended::Succeeded => Ended::Failed,
+            Ended::Failed => Ended::Failed, // an undo that has failed has ended too
+        },
+    }
+}
+
+// How the whole process, run with its undo, has ended, and what may come next in it.
+pub fn tell(a: Cells) -> Told
+    ensures { λ r. ⌜ r ≡ toldTwo a ⌝ }
+{
+    let forward = a.forward;
+    let undo = a.undo;
+    let ended = forward.ended;
+    let undone = undo.ended;
+    let first = given(!undo.begun, forward.next);
+    let then = given(is_failed(ended), undo.next);
+    Told {
+        ended: then_undo(ended, undone),
+        next: first | then,
+    }
+}
+
+fn left_next(form: Composite, x_next: u64, x_whole: u64) -> u64
+    ensures { λ r. ⌜ r ≡ leftNext (compositeForm form) «x_next» «x_whole» ⌝ }
+{
+    match form {
+        Composite::Sequence => x_next,
+        Composite::Parallel => x_next,
+        Composite::Choice => x_next,
+        Composite::Compensation => x_next,
+        Composite::Handler => x_whole,
+    }
+}
+
+fn node_undo(form: Composite, a: Cells, b: Cells) -> Cell
+    ensures { λ r. ⌜ r ≡ formTwo (compositeForm form) a b .undo ⌝ }
+{
+    let left = a.forward;
+    let left_undo = a.undo;
+    let right = b.forward;
+    let right_undo = b.undo;
+    let ended = left.ended;
+    let succeeded = is_succeeded(ended);
+    match form {
+        Composite::Sequence => join_cell(Composite::Sequence, right_undo, left_undo),
+        Composite::Parallel => join_cell(Composite::Parallel, left_undo, right_undo),
+        Composite::Choice => join_cell(Composite::Sequence, right_undo, left_undo),
+        Composite::Compensation => { if succeeded { right } else { left_undo } }
+        Composite::Handler => { if succeeded { left_undo } else { right_undo } }
+    }
+}
+
+fn form_of(number: u8) -> Composite
+    ensures { λ r. ⌜ compositeForm r ≡ formOf number ⌝ }
+{
+    match number {
+        3 => Composite::Sequence,
+        4 => Composite::Parallel,
+        5 => Composite::Choice,
+        6 => Composite::Compensation,
+        _ => Composite::Handler,
+    }
+}
+
+// A node of a plan by the number of its form, 3 to 7, from the cells of its sides. Any other number is taken for a handler's.
+pub fn node_cells(number: u8, a: Cells, b: Cells) -> Cells
+    ensures { λ r. ⌜ r ≡ nodeTwo number a b ⌝ }
+{
+    let form = form_of(number);
+    let whole = tell(a);
+    let ended = whole.ended;
+    let x = a.forward;
+    let y = b.forward;
+    let next = left_next(form, x.next, whole.next);
+    Cells {
+        forward: node_cell(form, x, y, next, is_failed(ended)),
+        undo: node_undo(form, a, b),
+    }
+}
+
+// A leaf by its node number and its outcome. Where the number is not below 64, as every node's of a plan is: nothing to run.
+pub fn leaf_cells(n: usize, outcome: Ended) -> Cells
+    ensures { λ r. ⌜ r ≡ leafTwo n outcome ⌝ }
+{
+    let nothing = Cell {
+        empty: true,
+        begun: false,
+        ended: Ended::Succeeded,
+        next: 0,
+    };
+    if 64 <= n {
+        return Cells {
+            forward: nothing,
+            undo: nothing,
+        };
+    }
+    match outcome {
+        Ended::Open => Cells {
+            forward: Cell {
+                empty: false,
+                begun: false,
+                ended: Ended::Open,
+                next: 1 << n,
+            },
+            undo: nothing,
+        },
+        Ended::Succeeded => Cells {
+            forward: Cell {
+                empty: false,
+                begun: true,
+                ended: Ended::Succeeded,
+                next: 0,
+            },
+            undo: nothing,
+        },
+        Ended::Failed => Cells {
+            forward: Cell {
+                empty: false,
+                begun: true,
+                ended: Ended::Failed,
+                next: 0,
+            },
+            undo: nothing,
+        },
+    }
+}

@@ -1,0 +1,5 @@
+pub mod Fold
+pub mod Nested
+pub mod Forms
+pub mod Named
+pub mod Under
