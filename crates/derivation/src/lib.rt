@@ -24,12 +24,13 @@ fn step(types: &[u8], nodes: &[u8], work: &[u8], i: usize, m: Marks) -> Marks
     requires { ⌜ Runnable (now types) (now nodes) × Holds (now types) (now nodes) (count (now nodes)) (now work) × (i < count (now nodes)) × InFamily (actionSets (now nodes)) (processAt (now types) (now nodes) i) (getD (m .codes) i 0) (getD (m .sets) i 0) ⌝ }
     ensures { λ r. ⌜ Step (now (types .entry)) (now (nodes .entry)) i m r ⌝ }
 {
-    let form = nodes[3 * i];
+    let x = nodes::node_at(nodes, i);
+    let form = x.form;
     if form < 3 {
         return m;
     }
-    let l = blocks::wide(nodes[3 * i + 1]);
-    let r = blocks::wide(nodes[3 * i + 2]);
+    let l = x.left;
+    let r = x.right;
     let mut codes = m.codes;
     let mut sets = m.sets;
     let p = search::parts_of(

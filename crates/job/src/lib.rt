@@ -251,12 +251,12 @@ fn take_in(s: &[u8], j: Job, e: Entry) -> Taken
 }
 
 impl Job {
-    // The limits of a plan file.
-    pub const MOST_ACTIONS: usize = 10;
+    // The limits of a plan file: the reader's own.
+    pub const MOST_ACTIONS: u8 = plan::MOST_ACTIONS;
 
-    pub const MOST_NODES: usize = 63;
+    pub const MOST_NODES: u8 = plan::MOST_NODES;
 
-    pub const MOST_RULE: usize = 127;
+    pub const MOST_RULE: u8 = plan::MOST_RULE;
 
     // Starts a job from the bytes of a plan file.
     pub fn start(file: &[u8]) -> Taken

@@ -1,4 +1,5 @@
 pub mod Fold
+pub mod Filled
 pub mod Nested
 pub mod Forms
 pub mod Named

@@ -1,3 +1,4 @@
 pub mod Nodes
+pub mod Node
 pub mod Fold
 pub mod NodeTests

@@ -4,15 +4,41 @@ ghost use mathlib.Core.Bool.{false, cond};
 ghost use Prim.Native.Nat.{_≤_, _<_};
 ghost use lib.Dec.{ltb};
 ghost use lib.ListN.{length, getD};
-ghost use Rattle.nodes.specs.Nodes.{Descending};
+ghost use Rattle.nodes.specs.Nodes.{count, Descending};
+ghost use Rattle.nodes.specs.Node.{nodeAt};
 ghost use Rattle.nodes.specs.NodeTests.{nodeOk, formsOk, naming, timesNamed, namedOk, holding, undoOk, nestedOk, nodesFault};
 
-// Whether node i, (`f`, `l`, `r`), keeps the rule of its form.
-fn node_ok(actions: usize, i: usize, f: u8, l: u8, r: u8) -> bool
-    ensures { λ k. ⌜ k ≡ nodeOk actions i f l r ⌝ }
+// A node: its form, and the two numbers beside it.
+pub struct Node {
+    pub form: u8,
+    pub left: usize,
+    pub right: usize,
+}
+
+// Node i of a node list.
+pub fn node_at(b: &[u8], i: usize) -> Node
+    requires { ⌜ i < count (now b) ⌝ }
+    ensures { λ n. ⌜ n ≡ nodeAt (now (b .entry)) i ⌝ }
 {
+    let at = 3 * i;
+    let left = blocks::wide(b[at + 1]);
+    let right = blocks::wide(b[at + 2]);
+    Node {
+        form: b[at],
+        left,
+        right,
+    }
+}
+
+// Whether node i, which is `x`, keeps the rule of its form.
+fn node_ok(actions: usize, i: usize, x: Node) -> bool
+    ensures { λ k. ⌜ k ≡ nodeOk actions i (x .form) (x .left) (x .right) ⌝ }
+{
+    let f = x.form;
+    let l = x.left;
+    let r = x.right;
     if f == 0 {
-        if blocks::wide(l) < actions {
+        if l < actions {
             return r == 0;
         }
         return false;
@@ -24,8 +50,8 @@ fn node_ok(actions: usize, i: usize, f: u8, l: u8, r: u8) -> bool
         return false;
     }
     if f <= 7 {
-        if blocks::wide(l) < i {
-            return blocks::wide(r) < i;
+        if l < i {
+            return r < i;
         }
         return false;
     }
@@ -39,7 +65,7 @@ fn forms_ok(b: &[u8], actions: usize) -> bool
     let n = b.len() / 3;
     let mut i = 0;
     while i < n {
-        if !node_ok(actions, i, b[3 * i], b[3 * i + 1], b[3 * i + 2]) {
+        if !node_ok(actions, i, node_at(b, i)) {
             return false;
         }
         i += 1;
@@ -47,18 +73,21 @@ fn forms_ok(b: &[u8], actions: usize) -> bool
     true
 }
 
-// How often a node (`f`, `l`, `r`) names `j`.
-fn naming_of(j: usize, f: u8, l: u8, r: u8) -> usize
-    ensures { λ k. ⌜ k ≡ naming j f l r ⌝ }
+// How often a node names `j`.
+fn naming_of(j: usize, x: Node) -> usize
+    ensures { λ k. ⌜ k ≡ naming j (x .form) (x .left) (x .right) ⌝ }
 {
+    let f = x.form;
+    let l = x.left;
+    let r = x.right;
     if 3 <= f {
-        if blocks::wide(l) == j {
-            if blocks::wide(r) == j {
+        if l == j {
+            if r == j {
                 return 2;
             }
             return 1;
         }
-        if blocks::wide(r) == j {
+        if r == j {
             return 1;
         }
         return 0;
@@ -74,7 +103,7 @@ fn times_named(b: &[u8], j: usize) -> usize
     let mut times = 0;
     let mut i = 0;
     while i < n {
-        times += naming_of(j, b[3 * i], b[3 * i + 1], b[3 * i + 2]);
+        times += naming_of(j, node_at(b, i));
         i += 1;
     }
     times
@@ -108,27 +137,29 @@ fn holding_of(f: u8, l: bool, r: bool) -> bool
     r
 }
 
-// Whether a compensation stands at the node (`f`, `l`, `r`) or below it, by the table of the nodes before it.
-fn holds_at(held: &[bool; 63], f: u8, l: u8, r: u8) -> bool
-    requires { ⌜ (3 ≤ f → (l < 63) × (r < 63)) ⌝ }
-    ensures { λ k. ⌜ k ≡ cond (ltb f 3) false (holding f (getD (now (held .entry)) l false) (getD (now (held .entry)) r false)) ⌝ }
+// Whether a compensation stands at the node or below it, by the table of the nodes before it.
+fn holds_at(held: &[bool; 63], x: Node) -> bool
+    requires { ⌜ (3 ≤ x .form → (x .left < 63) × (x .right < 63)) ⌝ }
+    ensures { λ k. ⌜ k ≡ cond (ltb (x .form) 3) false (holding (x .form) (getD (now (held .entry)) (x .left) false) (getD (now (held .entry)) (x .right) false)) ⌝ }
 {
+    let f = x.form;
     if f < 3 {
         return false;
     }
-    let i = blocks::wide(l);
-    let j = blocks::wide(r);
-    holding_of(f, held[i], held[j])
+    let l = x.left;
+    let r = x.right;
+    holding_of(f, held[l], held[r])
 }
 
-// Whether the undo side of a node of the form `f`, node `r`, holds no compensation, by the same table.
-fn undo_ok(held: &[bool; 63], f: u8, r: u8) -> bool
-    requires { ⌜ (f ≡ 6 → r < 63) ⌝ }
-    ensures { λ k. ⌜ k ≡ undoOk f (getD (now (held .entry)) r false) ⌝ }
+// Whether the undo side of the node, where it has one, holds no compensation, by the same table.
+fn undo_ok(held: &[bool; 63], x: Node) -> bool
+    requires { ⌜ (x .form ≡ 6 → x .right < 63) ⌝ }
+    ensures { λ k. ⌜ k ≡ undoOk (x .form) (getD (now (held .entry)) (x .right) false) ⌝ }
 {
+    let f = x.form;
+    let undo = x.right;
     if f == 6 {
-        let j = blocks::wide(r);
-        return !held[j];
+        return !held[undo];
     }
     true
 }
@@ -142,13 +173,11 @@ fn nested_ok(b: &[u8]) -> bool
     let mut held = [false; 63];
     let mut i = 0;
     while i < n {
-        let f = b[3 * i];
-        let l = b[3 * i + 1];
-        let r = b[3 * i + 2];
-        if !undo_ok(&held, f, r) {
+        let x = node_at(b, i);
+        if !undo_ok(&held, x) {
             return false;
         }
-        let v = holds_at(&held, f, l, r);
+        let v = holds_at(&held, x);
         held[i] = v;
         i += 1;
     }

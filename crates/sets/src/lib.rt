@@ -15,8 +15,10 @@ fn set_of(nodes: &[u8], n: usize) -> usize
     requires { ⌜ (n < count (now nodes)) × (form (now nodes) n ≡ 0 → left (now nodes) n < 10) ⌝ }
     ensures { λ r. ⌜ r ≡ leafSet (now (nodes .entry)) n ⌝ }
 {
-    if nodes[3 * n] == 0 {
-        let a = blocks::wide(nodes[3 * n + 1]);
+    let x = nodes::node_at(nodes, n);
+    let f = x.form;
+    let a = x.left;
+    if f == 0 {
         return 1 << a;
     }
     0
@@ -36,16 +38,15 @@ fn summary_of(types: &[u8], nodes: &[u8], work: &[u8], n: usize) -> Summary
     requires { ⌜ Runnable (now types) (now nodes) × (n < count (now nodes)) × Holds (now types) (now nodes) n (now work) ⌝ }
     ensures { λ r. ⌜ Exact (leafSet (now (nodes .entry))) r (processAt (now (types .entry)) (now (nodes .entry)) n) ⌝ }
 {
-    let f = nodes[3 * n];
+    let x = nodes::node_at(nodes, n);
+    let f = x.form;
     if f < 3 {
         return leaf(types, nodes, n);
     }
-    let l = blocks::wide(nodes[3 * n + 1]);
-    let r = blocks::wide(nodes[3 * n + 2]);
     summary::node(
         f,
-        area::load(work, l),
-        area::load(work, r),
+        area::load(work, x.left),
+        area::load(work, x.right),
     )
 }
 

@@ -3,4 +3,3 @@ pub mod Traces
 pub mod Joined
 pub mod Room
 pub mod Derived
-pub mod Filled

@@ -184,9 +184,10 @@ pub fn show(types: &[u8], nodes: &[u8], codes: &[u8; 63]) -> [u8; 126]
     let mut table = [none; 63];
     let mut i = 0;
     while i < n {
-        let l = blocks::wide(nodes[3 * i + 1]);
-        let r = blocks::wide(nodes[3 * i + 2]);
-        let v = levels_of(i as u8, nodes[3 * i], codes[i], table[l], table[r]);
+        let x = nodes::node_at(nodes, i);
+        let l = x.left;
+        let r = x.right;
+        let v = levels_of(i as u8, x.form, codes[i], table[l], table[r]);
         table[i] = v;
         i += 1;
     }

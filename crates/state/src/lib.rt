@@ -66,9 +66,10 @@ pub fn told_by(types: &[u8], nodes: &[u8], table: &[u8; 63]) -> Told
     let mut cells = [none; 63];
     let mut i = 0;
     while i < n {
-        let l = blocks::wide(nodes[3 * i + 1]);
-        let r = blocks::wide(nodes[3 * i + 2]);
-        let v = cell_of(i, nodes[3 * i], table[i], cells[l], cells[r]);
+        let x = nodes::node_at(nodes, i);
+        let l = x.left;
+        let r = x.right;
+        let v = cell_of(i, x.form, table[i], cells[l], cells[r]);
         cells[i] = v;
         i += 1;
     }
@@ -92,9 +93,10 @@ pub fn leaf_type(types: &[u8], nodes: &[u8], n: usize) -> u8
     requires { ⌜ Runnable (now types) (now nodes) × (n < count (now nodes)) ⌝ }
     ensures { λ r. ⌜ r ≡ leafType (now (types .entry)) (now (nodes .entry)) n ⌝ }
 {
-    let f = nodes[3 * n];
+    let x = nodes::node_at(nodes, n);
+    let f = x.form;
+    let a = x.left;
     if f == 0 {
-        let a = blocks::wide(nodes[3 * n + 1]);
         return types[a];
     }
     f
@@ -106,7 +108,8 @@ fn leaf_permits(types: &[u8], nodes: &[u8], n: usize, outcome: u8) -> bool
     ensures { λ r. ⌜ r ≡ leafPermits (now (types .entry)) (now (nodes .entry)) n outcome ⌝ }
 {
     if n < nodes.len() / 3 {
-        if nodes[3 * n] < 3 {
+        let x = nodes::node_at(nodes, n);
+        if x.form < 3 {
             return type_permits(leaf_type(types, nodes, n), outcome);
         }
         return false;

@@ -1,4 +1,4 @@
--- `summary::area::load` meets its contract: six families, where the area has room for them.
+-- `area::load` meets its contract: six families, where the area has room for them.
 use Rattle.area.proofs.Areas.{no-room, room}
 use borrow.Author.Needs.{needs}
 use Rattle.area.proofs.load.Statement.{statement}

@@ -1,4 +1,4 @@
--- `summary::area::load_family` meets its contract: the words passed are read.
+-- `area::load_family` meets its contract: the words passed are read.
 use mathlib.Core.Path.{_≡_}
 use Prim.Native.Nat.{ℕ, _+_, _-_, _*_, _≤_, _<_}
 use lib.ListN.{length, length-set, getD}

@@ -1,4 +1,4 @@
--- `summary::area::store` meets its contract: the families of the codes passed are written (`Storing`).
+-- `area::store` meets its contract: the families of the codes passed are written (`Storing`).
 use mathlib.Core.Path.{_≡_, refl, sym, subst}
 use mathlib.Core.Bool.{true≢false, false≢true}
 use borrow.Author.Tests.{le-leb}

@@ -1,4 +1,4 @@
--- `summary::area::store_family` meets its contract: the words passed are written (`Writing`).
+-- `area::store_family` meets its contract: the words passed are written (`Writing`).
 use mathlib.Core.Path.{_≡_, subst}
 use Prim.Native.Nat.{ℕ, _-_, _≤_}
 use Rattle.area.proofs.Areas.{Writing, writing-none, writing-more, written}

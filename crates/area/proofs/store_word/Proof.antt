@@ -1,4 +1,4 @@
--- `summary::area::store_word` meets its contract: eight bytes written in a row (`Putting`).
+-- `area::store_word` meets its contract: eight bytes written in a row (`Putting`).
 use Prim.Native.Nat.{ℕ, _+_, _≤_}
 use mathlib.Core.List.{List}
 use lib.ListN.{length, length-set}

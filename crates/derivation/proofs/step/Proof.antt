@@ -13,40 +13,13 @@ use borrow.Author.Needs.{needs}
 use Rattle.derivation.proofs.step.Statement.{statement}
 use Rattle.derivation.proofs.step.Tie as tie
 
-mul-form : tie.Need-mul-form
-mul-form c = search needs
-
-shared-slice-read-form : tie.Need-shared-slice-read-form
-shared-slice-read-form c = search needs
+node-at-requires : tie.Need-node-at-requires
+node-at-requires c κs = search needs
 
 returns : tie.Need-returns
 returns c =
     let s = c .before .before .before .before .before in
-    step-leaf (s .args .types .now) (s .args .nodes .now) (s .pre .0) (s .args .i) (s .pre .2) (s .args .m) (c .if1 .taken)
-
-mul-wide : tie.Need-mul-wide
-mul-wide c = search needs
-
-add-wide : tie.Need-add-wide
-add-wide c = search needs
-
-shared-slice-read-wide : tie.Need-shared-slice-read-wide
-shared-slice-read-wide c = search needs
-
-wide-requires : tie.Need-wide-requires
-wide-requires c κs = search needs
-
-mul-wide-2 : tie.Need-mul-wide-2
-mul-wide-2 c = search needs
-
-add-wide-2 : tie.Need-add-wide-2
-add-wide-2 c = search needs
-
-shared-slice-read-wide-2 : tie.Need-shared-slice-read-wide-2
-shared-slice-read-wide-2 c = search needs
-
-wide-requires-2 : tie.Need-wide-requires-2
-wide-requires-2 c κs = search needs
+    step-leaf (s .args .types .now) (s .args .nodes .now) (s .pre .0) (s .args .i) (s .pre .2) (s .args .m) (rw (c .before .node-at .ensures) at (c .if1 .taken))
 
 array-read-parts-of : tie.Need-array-read-parts-of
 array-read-parts-of c = search needs
@@ -67,33 +40,33 @@ parts-of-requires : tie.Need-parts-of-requires
 parts-of-requires c κs = search needs
 
 -- the parts' numbers lie in the tables
-left-bound : (c : tie.After-wide) → c .wide .result < 63
+left-bound : (c : tie.After-node-at) → c .node-at .result .left < 63
 left-bound c =
-    let s = c .before .before .before .before .before .before .before in
-    rw (c .wide .ensures) (left-small (s .args .types .now) (s .args .nodes .now) (s .pre .0) (s .args .i) (s .pre .2))
+    let s = c .before .before .before .before in
+    rw (c .node-at .ensures) (left-small (s .args .types .now) (s .args .nodes .now) (s .pre .0) (s .args .i) (s .pre .2))
 
-right-bound : (c : tie.After-wide2) → c .wide2 .result < 63
+right-bound : (c : tie.After-node-at) → c .node-at .result .right < 63
 right-bound c =
-    let s = c .before .before .before .before .before .before .before .before .before in
-    rw (c .wide2 .ensures) (right-small (s .args .types .now) (s .args .nodes .now) (s .pre .0) (s .args .i) (s .pre .2))
+    let s = c .before .before .before .before in
+    rw (c .node-at .ensures) (right-small (s .args .types .now) (s .args .nodes .now) (s .pre .0) (s .args .i) (s .pre .2))
 
 array-write-codes : tie.Need-array-write-codes
-array-write-codes c = left-bound (c .before .before .before .before .before .before .before)
+array-write-codes c = left-bound (c .before .before .before .before .before .before)
 
 mul-sets : tie.Need-mul-sets
-mul-sets c = omega (arith, left-bound (c .before .before .before .before .before .before .before))
+mul-sets c = omega (arith, left-bound (c .before .before .before .before .before .before))
 
 array-write-sets : tie.Need-array-write-sets
-array-write-sets c = left-bound (c .before .before .before .before .before .before .before)
+array-write-sets c = left-bound (c .before .before .before .before .before .before)
 
 array-write-codes-2 : tie.Need-array-write-codes-2
-array-write-codes-2 c = right-bound (c .before .before .before .before .before)
+array-write-codes-2 c = right-bound (c .before .before .before .before .before .before)
 
 mul-sets-2 : tie.Need-mul-sets-2
-mul-sets-2 c = omega (arith, right-bound (c .before .before .before .before .before))
+mul-sets-2 c = omega (arith, right-bound (c .before .before .before .before .before .before))
 
 array-write-sets-2 : tie.Need-array-write-sets-2
-array-write-sets-2 c = right-bound (c .before .before .before .before .before)
+array-write-sets-2 c = right-bound (c .before .before .before .before .before .before)
 
 -- what holding the marks tells of its two arrays
 codes-long : (s : tie.Start) → length (s .args .m .codes) ≡ 63
@@ -106,34 +79,25 @@ returns-2 : tie.Need-returns-2
 returns-2 c =
     let y = c .before in
     let x = y .before in
-    let r = x .before .before .before in
-    let l = r .before .before in
-    let e = l .before .before in
-    let s = e .before .before .before .before .before in
+    let e = x .before .before .before in
+    let n = e .before in
+    let s = n .before .before .before .before in
     let b = s .args .nodes .now in
     let work = s .args .work .now in
     let i = s .args .i in
     let m = s .args .m in
+    let is = n .node-at .ensures in
     let answer : PartsOf (form b i) (codeAt m i) (loaded work (left b i)) (loaded work (right b i)) (setAt m i) (c .parts-of .result) =
-    rw (← l .wide .ensures, ← r .wide2 .ensures, ← x .load .ensures, ← y .load2 .ensures) (c .parts-of .ensures) in
-    rw (l .wide .ensures, r .wide2 .ensures)
-    (step-parts (s .args .types .now) b (s .pre .0) i (s .pre .2) (e .if1 .left) work (s .pre .1) m (s .pre .3) (codes-long s) (sets-long s) (c .parts-of .result) answer)
+    rw (← rw is at (x .load .ensures), ← rw is at (y .load2 .ensures)) (rw is at (c .parts-of .ensures)) in
+    rw is
+    (step-parts (s .args .types .now) b (s .pre .0) i (s .pre .2) (rw is at (e .if1 .left)) work (s .pre .1) m (s .pre .3) (codes-long s) (sets-long s) (c .parts-of .result) answer)
 
 pub step-spec : {M : Type 1} → statement M
 step-spec =
     tie.close
     (tie.spec
-    mul-form
-    shared-slice-read-form
+    node-at-requires
     returns
-    mul-wide
-    add-wide
-    shared-slice-read-wide
-    wide-requires
-    mul-wide-2
-    add-wide-2
-    shared-slice-read-wide-2
-    wide-requires-2
     array-read-parts-of
     load-requires
     load-requires-2

@@ -21,10 +21,10 @@ zeros-from-requires-2 : tie.Need-zeros-from-requires-2
 zeros-from-requires-2 c κs = search needs
 
 returns : tie.Need-returns
-returns c = simp (sym (c .before .before .before .before .zeros-from .ensures) ∙ c .before .before .before .if3 .taken, lt-ltb _ _ (c .before .before .before .before .before .before .if2 .taken), le-leb _ _ (c .before .before .before .before .before .before .before .before .if1 .taken), c .zeros-from2 .ensures, c .before .before .before .before .zeros-from .ensures)
+returns c = simp (sym (c .before .before .before .before .zeros-from .ensures) ∙ c .before .before .before .if3 .taken, lt-ltb _ _ (c .before .before .before .before .before .before .if2 .taken), le-leb _ _ (c .before .before .before .before .before .before .before .before .if1 .taken), c .zeros-from2 .ensures)
 
 returns-2 : tie.Need-returns-2
-returns-2 c = simp (sym (c .before .zeros-from .ensures) ∙ c .if3 .left, lt-ltb _ _ (c .before .before .before .if2 .taken), le-leb _ _ (c .before .before .before .before .before .if1 .taken), c .before .zeros-from .ensures)
+returns-2 c = simp (sym (c .before .zeros-from .ensures) ∙ c .if3 .left, lt-ltb _ _ (c .before .before .before .if2 .taken), le-leb _ _ (c .before .before .before .before .before .if1 .taken))
 
 returns-3 : tie.Need-returns-3
 returns-3 c = simp (le-ltb _ _ (c .if2 .left), le-leb _ _ (c .before .before .if1 .taken))

@@ -1,4 +1,4 @@
--- `plan::nodes::forms_ok` meets its contract: each node passed keeps the rule of its form.
+-- `nodes::forms_ok` meets its contract: each node passed keeps the rule of its form.
 use mathlib.Core.Path.{_≡_, refl, sym, _∙_}
 use mathlib.Core.Bool.{Bool}
 use mathlib.Core.List.{List}
@@ -27,38 +27,18 @@ loop-holds c =
     let a = c .before .args in
     (refl, passed-none (test (a .b .now) (a .actions)) (count (a .b .now)))
 
-mul-node-ok : tie.Need-mul-node-ok Inv-loop μ-loop
-mul-node-ok c = omega arith
-
-shared-slice-read-node-ok : tie.Need-shared-slice-read-node-ok Inv-loop μ-loop
-shared-slice-read-node-ok c = omega arith
-
-mul-node-ok-2 : tie.Need-mul-node-ok-2 Inv-loop μ-loop
-mul-node-ok-2 c = omega arith
-
-add-node-ok : tie.Need-add-node-ok Inv-loop μ-loop
-add-node-ok c = omega arith
-
-shared-slice-read-node-ok-2 : tie.Need-shared-slice-read-node-ok-2 Inv-loop μ-loop
-shared-slice-read-node-ok-2 c = omega arith
-
-mul-node-ok-3 : tie.Need-mul-node-ok-3 Inv-loop μ-loop
-mul-node-ok-3 c = omega arith
-
-add-node-ok-2 : tie.Need-add-node-ok-2 Inv-loop μ-loop
-add-node-ok-2 c = omega arith
-
-shared-slice-read-node-ok-3 : tie.Need-shared-slice-read-node-ok-3 Inv-loop μ-loop
-shared-slice-read-node-ok-3 c = omega arith
+node-at-requires : tie.Need-node-at-requires Inv-loop μ-loop
+node-at-requires c κs = omega arith
 
 node-ok-requires : tie.Need-node-ok-requires Inv-loop μ-loop
 node-ok-requires c κs = search needs
 
 returns : tie.Need-returns Inv-loop μ-loop
 returns c =
-    let l = c .before .before .before .before .before .before in
-    let a = c .before .before .before .before .before .before .before .before .args in
-    sym (every-fails (test (a .b .now) (a .actions)) (count (a .b .now)) (l .loop .i) (omega arith) (sym (c .before .node-ok .ensures) ∙ not-true _ (c .if1 .taken)))
+    let l = c .before .before .before .before in
+    let a = l .before .before .args in
+    let e = rw (c .before .before .node-at .ensures) at (c .before .node-ok .ensures) in
+    sym (every-fails (test (a .b .now) (a .actions)) (count (a .b .now)) (l .loop .i) (omega arith) (sym e ∙ not-true _ (c .if1 .taken)))
 
 add-i : tie.Need-add-i Inv-loop μ-loop
 add-i c = omega arith
@@ -68,9 +48,10 @@ loop-less c = omega arith
 
 loop-again : tie.Need-loop-again Inv-loop μ-loop
 loop-again c =
-    let l = c .before .before .before .before .before .before in
-    let a = c .before .before .before .before .before .before .before .before .args in
-    (l .loop .inv .0, passed-more (test (a .b .now) (a .actions)) (count (a .b .now)) (l .loop .i) (omega arith) (sym (c .before .node-ok .ensures) ∙ not-false _ (c .if1 .left)) (l .loop .inv .1))
+    let l = c .before .before .before .before in
+    let a = l .before .before .args in
+    let e = rw (c .before .before .node-at .ensures) at (c .before .node-ok .ensures) in
+    (l .loop .inv .0, passed-more (test (a .b .now) (a .actions)) (count (a .b .now)) (l .loop .i) (omega arith) (sym e ∙ not-false _ (c .if1 .left)) (l .loop .inv .1))
 
 returns-2 : tie.Need-returns-2 Inv-loop μ-loop
 returns-2 c =
@@ -79,4 +60,4 @@ returns-2 c =
     sym (passed-all (test (a .b .now) (a .actions)) (count (a .b .now)) (l .loop .i) (omega arith) (l .loop .inv .1))
 
 pub forms-ok-spec : {M : Type 1} → statement M
-forms-ok-spec = tie.close (tie.spec Inv-loop μ-loop loop-holds mul-node-ok shared-slice-read-node-ok mul-node-ok-2 add-node-ok shared-slice-read-node-ok-2 mul-node-ok-3 add-node-ok-2 shared-slice-read-node-ok-3 node-ok-requires returns add-i loop-less loop-again returns-2)
+forms-ok-spec = tie.close (tie.spec Inv-loop μ-loop loop-holds node-at-requires node-ok-requires returns add-i loop-less loop-again returns-2)

@@ -1,4 +1,4 @@
--- `plan::nodes::holding_of` meets its contract: each return by the tests that led there.
+-- `nodes::holding_of` meets its contract: each return by the tests that led there.
 use borrow.Author.Tests.{eq-eqb, ne-eqb}
 use Rattle.nodes.proofs.holding_of.Statement.{statement}
 use Rattle.nodes.proofs.holding_of.Tie as tie

@@ -1,4 +1,4 @@
--- `plan::nodes::named_ok` meets its contract: each node passed is named exactly once.
+-- `nodes::named_ok` meets its contract: each node passed is named exactly once.
 use mathlib.Core.Path.{_≡_, refl, sym, _∙_}
 use mathlib.Core.Bool.{Bool}
 use mathlib.Core.List.{List}

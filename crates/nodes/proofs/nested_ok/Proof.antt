@@ -1,71 +1,50 @@
--- `plan::nodes::nested_ok` meets its contract: the table of the nodes passed is filled, and their undo sides hold no compensation.
+-- `nodes::nested_ok` meets its contract: the table of the nodes passed is filled, and their undo sides hold no compensation.
 use mathlib.Core.Path.{_≡_, refl, sym, _∙_}
 use Prim.Native.Nat.{_-_}
 use native.Mathlib.Omega.{arith}
 use borrow.Author.Tests.{not-true, not-false}
 use Rattle.blocks.proofs.Bounded.{every-fails, passed-all}
 use Rattle.nodes.specs.Nodes.{count, left}
-use Rattle.nodes.proofs.Nested.{undoTest, Filled, filled-none, undo-entry, filled-more}
+use Rattle.nodes.proofs.Nested.{undoTest, Held, held-none, undo-entry, held-more}
 use Rattle.nodes.proofs.nested_ok.Statement.{statement}
 use Rattle.nodes.proofs.nested_ok.Tie as tie
 
 abbrev Inv-loop : tie.InvT-loop
-Inv-loop b n held₀ i₀ held i = (n ≡ count b) × Filled b 63 i held
+Inv-loop b n held₀ i₀ held i = (n ≡ count b) × Held b 63 i held
 
 abbrev μ-loop : tie.MeasureT-loop
 μ-loop b n held₀ i₀ held i = n - i
 
 loop-holds : tie.Need-loop-holds Inv-loop μ-loop
-loop-holds c = (refl, filled-none (c .before .args .b .now) _)
+loop-holds c = (refl, held-none (c .before .args .b .now) _)
 
-mul-f : tie.Need-mul-f Inv-loop μ-loop
-mul-f c = omega arith
-
-shared-slice-read-f : tie.Need-shared-slice-read-f Inv-loop μ-loop
-shared-slice-read-f c = omega arith
-
-mul-l : tie.Need-mul-l Inv-loop μ-loop
-mul-l c = omega arith
-
-add-l : tie.Need-add-l Inv-loop μ-loop
-add-l c = omega arith
-
-shared-slice-read-l : tie.Need-shared-slice-read-l Inv-loop μ-loop
-shared-slice-read-l c = omega arith
-
-mul-r : tie.Need-mul-r Inv-loop μ-loop
-mul-r c = omega arith
-
-add-r : tie.Need-add-r Inv-loop μ-loop
-add-r c = omega arith
-
-shared-slice-read-r : tie.Need-shared-slice-read-r Inv-loop μ-loop
-shared-slice-read-r c = omega arith
+node-at-requires : tie.Need-node-at-requires Inv-loop μ-loop
+node-at-requires c κs = omega arith
 
 undo-ok-requires : tie.Need-undo-ok-requires Inv-loop μ-loop
 undo-ok-requires c κs =
-    let l = c .before .before .before .before .before in
+    let l = c .before .before .before in
     let s = l .before .before in
-    λ e. omega (arith, s .pre .1 (l .loop .i) (omega arith) (omega arith) .1)
+    rw (c .before .node-at .ensures) λ e. omega (arith, s .pre .1 (l .loop .i) (omega arith) (omega arith) .1)
 
 -- the turn's test is the definition's
-tested : (c : tie.After-undo-ok Inv-loop μ-loop) → c .undo-ok .result ≡ undoTest (c .before .before .before .before .before .before .before .before .args .b .now) (c .before .before .before .before .before .before .loop .i)
+tested : (c : tie.After-undo-ok Inv-loop μ-loop) → c .undo-ok .result ≡ undoTest (c .before .before .before .before .before .before .args .b .now) (c .before .before .before .before .loop .i)
 tested c =
-    let l = c .before .before .before .before .before .before in
+    let l = c .before .before .before .before in
     let s = l .before .before in
-    c .undo-ok .ensures ∙ undo-entry (s .args .b .now) (s .pre .1) 63 (l .loop .i) (l .loop .held) (omega arith) (l .loop .inv .1)
+    rw (c .before .before .node-at .ensures) at (c .undo-ok .ensures) ∙ undo-entry (s .args .b .now) (s .pre .1) 63 (l .loop .i) (l .loop .held) (omega arith) (l .loop .inv .1)
 
 returns : tie.Need-returns Inv-loop μ-loop
 returns c =
-    let l = c .before .before .before .before .before .before .before in
+    let l = c .before .before .before .before .before in
     let b = l .before .before .args .b .now in
     sym (every-fails (undoTest b) (count b) (l .loop .i) (omega arith) (sym (tested (c .before)) ∙ not-true _ (c .if1 .taken)))
 
 holds-at-requires : tie.Need-holds-at-requires Inv-loop μ-loop
 holds-at-requires c κs =
-    let l = c .before .before .before .before .before .before .before .before in
+    let l = c .before .before .before .before .before .before in
     let s = l .before .before in
-    λ f. let k = s .pre .1 (l .loop .i) (omega arith) f in (omega (arith, k .0), omega (arith, k .1))
+    rw (c .before .before .before .before .node-at .ensures) λ f. let k = s .pre .1 (l .loop .i) (omega arith) f in (omega (arith, k .0), omega (arith, k .1))
 
 array-write-held : tie.Need-array-write-held Inv-loop μ-loop
 array-write-held c = omega arith
@@ -78,10 +57,10 @@ loop-less c = omega arith
 
 loop-again : tie.Need-loop-again Inv-loop μ-loop
 loop-again c =
-    let l = c .before .before .before .before .before .before .before .before .before in
+    let l = c .before .before .before .before .before .before .before in
     let s = l .before .before in
     let t = sym (tested (c .before .before .before)) ∙ not-false _ (c .before .before .if1 .left) in
-    (l .loop .inv .0, filled-more (s .args .b .now) (s .pre .1) 63 (l .loop .i) (l .loop .held) _ (omega arith) (omega arith) t (c .holds-at .ensures) (l .loop .inv .1))
+    (l .loop .inv .0, held-more (s .args .b .now) (s .pre .1) 63 (l .loop .i) (l .loop .held) _ (omega arith) (omega arith) t (rw (c .before .before .before .before .before .node-at .ensures) at (c .holds-at .ensures)) (l .loop .inv .1))
 
 returns-2 : tie.Need-returns-2 Inv-loop μ-loop
 returns-2 c =
@@ -96,14 +75,7 @@ nested-ok-spec =
     Inv-loop
     μ-loop
     loop-holds
-    mul-f
-    shared-slice-read-f
-    mul-l
-    add-l
-    shared-slice-read-l
-    mul-r
-    add-r
-    shared-slice-read-r
+    node-at-requires
     undo-ok-requires
     returns
     holds-at-requires

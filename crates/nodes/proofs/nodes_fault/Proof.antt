@@ -1,4 +1,4 @@
--- `plan::nodes::nodes_fault` meets its contract: each return by the checks that led there, in their order.
+-- `nodes::nodes_fault` meets its contract: each return by the checks that led there, in their order.
 use mathlib.Core.Path.{sym, _∙_}
 use borrow.Author.Needs.{needs}
 use borrow.Author.Tests.{not-true, not-false}

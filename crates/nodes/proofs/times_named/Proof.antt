@@ -1,4 +1,4 @@
--- `plan::nodes::times_named` meets its contract: the sum over the nodes passed, at most two for each, so that it fits.
+-- `nodes::times_named` meets its contract: the sum over the nodes passed, at most two for each, so that it fits.
 use mathlib.Core.Path.{_≡_, refl}
 use mathlib.Core.List.{List}
 use Prim.Native.Nat.{ℕ, _*_, _-_, _≤_}
@@ -26,29 +26,8 @@ loop-holds : tie.Need-loop-holds Inv-loop μ-loop
 unfolding total
 loop-holds c = (refl, omega arith, omega arith, refl)
 
-mul-naming-of : tie.Need-mul-naming-of Inv-loop μ-loop
-mul-naming-of c = omega arith
-
-shared-slice-read-naming-of : tie.Need-shared-slice-read-naming-of Inv-loop μ-loop
-shared-slice-read-naming-of c = omega arith
-
-mul-naming-of-2 : tie.Need-mul-naming-of-2 Inv-loop μ-loop
-mul-naming-of-2 c = omega arith
-
-add-naming-of : tie.Need-add-naming-of Inv-loop μ-loop
-add-naming-of c = omega arith
-
-shared-slice-read-naming-of-2 : tie.Need-shared-slice-read-naming-of-2 Inv-loop μ-loop
-shared-slice-read-naming-of-2 c = omega arith
-
-mul-naming-of-3 : tie.Need-mul-naming-of-3 Inv-loop μ-loop
-mul-naming-of-3 c = omega arith
-
-add-naming-of-2 : tie.Need-add-naming-of-2 Inv-loop μ-loop
-add-naming-of-2 c = omega arith
-
-shared-slice-read-naming-of-3 : tie.Need-shared-slice-read-naming-of-3 Inv-loop μ-loop
-shared-slice-read-naming-of-3 c = omega arith
+node-at-requires : tie.Need-node-at-requires Inv-loop μ-loop
+node-at-requires c κs = omega arith
 
 naming-of-requires : tie.Need-naming-of-requires Inv-loop μ-loop
 naming-of-requires c κs = search needs
@@ -56,9 +35,9 @@ naming-of-requires c κs = search needs
 -- what a turn adds
 added : (c : tie.After-naming-of Inv-loop μ-loop) → c .naming-of .result ≤ 2
 added c =
-    let l = c .before .before .before .before .before in
+    let l = c .before .before .before in
     let a = l .before .before .args in
-    rw (c .naming-of .ensures) (naming-most (a .j) (form (a .b .now) (l .loop .i)) (left (a .b .now) (l .loop .i)) (right (a .b .now) (l .loop .i)))
+    rw (c .naming-of .ensures, c .before .node-at .ensures) (naming-most (a .j) (form (a .b .now) (l .loop .i)) (left (a .b .now) (l .loop .i)) (right (a .b .now) (l .loop .i)))
 
 add-times : tie.Need-add-times Inv-loop μ-loop
 add-times c = omega (arith, added c)
@@ -71,10 +50,11 @@ loop-less c = omega arith
 
 loop-again : tie.Need-loop-again Inv-loop μ-loop
 loop-again c =
-    let l = c .before .before .before .before .before in
+    let l = c .before .before .before in
     let a = l .before .before .args in
+    let named = rw (c .before .node-at .ensures) at (c .naming-of .ensures) in
     let e = total-more (term (a .b .now) (a .j)) (l .loop .i) in
-    (l .loop .inv .0, omega arith, omega (arith, added c), omega (arith, e, c .naming-of .ensures, l .loop .inv .3))
+    (l .loop .inv .0, omega arith, omega (arith, added c), omega (arith, e, named, l .loop .inv .3))
 
 returns : tie.Need-returns Inv-loop μ-loop
 returns c =
@@ -89,14 +69,7 @@ times-named-spec =
     Inv-loop
     μ-loop
     loop-holds
-    mul-naming-of
-    shared-slice-read-naming-of
-    mul-naming-of-2
-    add-naming-of
-    shared-slice-read-naming-of-2
-    mul-naming-of-3
-    add-naming-of-2
-    shared-slice-read-naming-of-3
+    node-at-requires
     naming-of-requires
     add-times
     add-i

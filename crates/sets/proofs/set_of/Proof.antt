@@ -9,50 +9,31 @@ use Rattle.nodes.specs.Nodes.{left}
 use Rattle.sets.proofs.set_of.Statement.{statement}
 use Rattle.sets.proofs.set_of.Tie as tie
 
-mul-if1 : tie.Need-mul-if1
-mul-if1 c = search needs
-
-shared-slice-read-if1 : tie.Need-shared-slice-read-if1
-shared-slice-read-if1 c = search needs
-
-mul-wide : tie.Need-mul-wide
-mul-wide c = search needs
-
-add-wide : tie.Need-add-wide
-add-wide c = search needs
-
-shared-slice-read-wide : tie.Need-shared-slice-read-wide
-shared-slice-read-wide c = search needs
-
-wide-requires : tie.Need-wide-requires
-wide-requires c κs = search needs
+node-at-requires : tie.Need-node-at-requires
+node-at-requires c κs = search needs
 
 -- the action's number is below ten
-few : (c : tie.After-wide) → c .wide .result < 10
+few : (c : tie.Then1) → c .before .node-at .result .left < 10
 few c =
-    let t = c .before .before in
-    rw (c .wide .ensures) (t .before .before .before .pre .1 (t .if1 .taken))
+    let e = c .before .node-at .ensures in
+    rw e (c .before .before .before .pre .1 (rw e at (c .if1 .taken)))
 
 shl-result : tie.Need-shl-result
 shl-result c = omega (arith, few c)
 
 returns : tie.Need-returns
 returns c =
-    one-shifted (c .wide .result) (omega (arith, few c)) ∙ rw (c .wide .ensures, eq-eqb _ _ (c .before .before .if1 .taken))
+    let e = c .before .node-at .ensures in
+    one-shifted (c .before .node-at .result .left) (omega (arith, few c)) ∙ rw (e, eq-eqb _ _ (rw e at (c .if1 .taken)))
 
 returns-2 : tie.Need-returns-2
-returns-2 c = rw (ne-eqb _ _ (c .if1 .left))
+returns-2 c = rw (ne-eqb _ _ (rw (c .before .node-at .ensures) at (c .if1 .left)))
 
 pub set-of-spec : {M : Type 1} → statement M
 set-of-spec =
     tie.close
     (tie.spec
-    mul-if1
-    shared-slice-read-if1
-    mul-wide
-    add-wide
-    shared-slice-read-wide
-    wide-requires
+    node-at-requires
     shl-result
     returns
     returns-2)

@@ -10,41 +10,16 @@ use Rattle.sets.proofs.Nodes.{node-exact}
 use Rattle.sets.proofs.summary_of.Statement.{statement}
 use Rattle.sets.proofs.summary_of.Tie as tie
 
-mul-f : tie.Need-mul-f
-mul-f c = search needs
-
-shared-slice-read-f : tie.Need-shared-slice-read-f
-shared-slice-read-f c = search needs
+node-at-requires : tie.Need-node-at-requires
+node-at-requires c κs = search needs
 
 leaf-requires : tie.Need-leaf-requires
-leaf-requires c κs = search needs
+leaf-requires c κs =
+    let s = c .before .before .before .before .before in
+    (s .pre .0, s .pre .1, rw (c .before .node-at .ensures) at (c .if1 .taken))
 
 returns : tie.Need-returns
 returns c = search needs
-
-mul-wide : tie.Need-mul-wide
-mul-wide c = search needs
-
-add-wide : tie.Need-add-wide
-add-wide c = search needs
-
-shared-slice-read-wide : tie.Need-shared-slice-read-wide
-shared-slice-read-wide c = search needs
-
-wide-requires : tie.Need-wide-requires
-wide-requires c κs = search needs
-
-mul-wide-2 : tie.Need-mul-wide-2
-mul-wide-2 c = search needs
-
-add-wide-2 : tie.Need-add-wide-2
-add-wide-2 c = search needs
-
-shared-slice-read-wide-2 : tie.Need-shared-slice-read-wide-2
-shared-slice-read-wide-2 c = search needs
-
-wide-requires-2 : tie.Need-wide-requires-2
-wide-requires-2 c κs = search needs
 
 load-requires : tie.Need-load-requires
 load-requires c κs = search needs
@@ -57,34 +32,27 @@ node-requires c κs = search needs
 
 returns-2 : tie.Need-returns-2
 returns-2 c =
-    let t = c .before .before .before .before .before .before .before in
-    let s = t .before .before .before .before .before in
+    let t = c .before .before .before in
+    let m = t .before in
+    let s = m .before .before .before .before in
     let types = s .args .types .now in
     let b = s .args .nodes .now in
     let n = s .args .n in
     let work = s .args .work .now in
-    let f : 3 ≤ form b n = omega (arith, t .if1 .left) in
+    let e = m .node-at .ensures in
+    let f : 3 ≤ form b n = rw e at (t .if1 .left) in
     let (l, r) = parts-smaller types b (s .pre .0) n (s .pre .1) f in
-    let x : loaded work (left b n) ≡ c .before .before .load .result = rw (← c .before .before .before .before .before .wide .ensures) (sym (c .before .before .load .ensures)) in
-    let y : loaded work (right b n) ≡ c .before .load2 .result = rw (← c .before .before .before .wide2 .ensures) (sym (c .before .load2 .ensures)) in
-    node-exact types b (s .pre .0) n (s .pre .1) _ _ (c .node .result) f (s .pre .2 (left b n) l) (s .pre .2 (right b n) r) (rw (x, y) (c .node .ensures))
+    let x : loaded work (left b n) ≡ c .before .before .load .result = sym (rw e at (c .before .before .load .ensures)) in
+    let y : loaded work (right b n) ≡ c .before .load2 .result = sym (rw e at (c .before .load2 .ensures)) in
+    node-exact types b (s .pre .0) n (s .pre .1) _ _ (c .node .result) f (s .pre .2 (left b n) l) (s .pre .2 (right b n) r) (rw (x, y) (rw e at (c .node .ensures)))
 
 pub summary-of-spec : {M : Type 1} → statement M
 summary-of-spec =
     tie.close
     (tie.spec
-    mul-f
-    shared-slice-read-f
+    node-at-requires
     leaf-requires
     returns
-    mul-wide
-    add-wide
-    shared-slice-read-wide
-    wide-requires
-    mul-wide-2
-    add-wide-2
-    shared-slice-read-wide-2
-    wide-requires-2
     load-requires
     load-requires-2
     node-requires

@@ -14,7 +14,7 @@ use Rattle.state.proofs.Sides.{left-small, right-small}
 use Rattle.shown.specs.Levels.{appended, leafAt, nodeAt}
 use Rattle.shown.specs.declared.Trace.{Trace}
 use Rattle.shown.specs.declared.Levels.{Levels}
-use Rattle.shown.proofs.Filled.{Filled, filled-none, filled-more}
+use Rattle.nodes.proofs.Filled.{Filled, filled-none, filled-more}
 use Rattle.shown.proofs.show.Statement.{statement}
 use Rattle.shown.proofs.show.Tie as tie
 
@@ -23,7 +23,7 @@ abbrev blank : Levels
 blank = record { count = 0; forward = record { bytes = []; len = 0 }; undo = record { bytes = []; len = 0 } }
 
 abbrev Inv-loop : tie.InvT-loop
-Inv-loop types nodes codes n table₀ i₀ table i = (n ≡ count nodes) × Filled (leafAt codes) (nodeAt nodes) nodes blank i table
+Inv-loop types nodes codes n table₀ i₀ table i = (n ≡ count nodes) × Filled (leafAt codes) (nodeAt nodes) nodes blank 63 i table
 
 abbrev μ-loop : tie.MeasureT-loop
 μ-loop types nodes codes n table₀ i₀ table i = n - i
@@ -37,72 +37,45 @@ ran-requires c κs = search needs
 loop-holds : tie.Need-loop-holds Inv-loop μ-loop
 loop-holds c =
     let a = c .before .before .before .before .args in
-    (refl, filled-none (leafAt (a .codes .now)) (nodeAt (a .nodes .now)) (a .nodes .now) blank _ refl)
+    (refl, filled-none (leafAt (a .codes .now)) (nodeAt (a .nodes .now)) (a .nodes .now) blank 63 _ refl)
 
-mul-wide : tie.Need-mul-wide Inv-loop μ-loop
-mul-wide c = omega arith
-
-add-wide : tie.Need-add-wide Inv-loop μ-loop
-add-wide c = omega arith
-
-shared-slice-read-wide : tie.Need-shared-slice-read-wide Inv-loop μ-loop
-shared-slice-read-wide c = omega arith
-
-wide-requires : tie.Need-wide-requires Inv-loop μ-loop
-wide-requires c κs = search needs
-
-mul-wide-2 : tie.Need-mul-wide-2 Inv-loop μ-loop
-mul-wide-2 c = omega arith
-
-add-wide-2 : tie.Need-add-wide-2 Inv-loop μ-loop
-add-wide-2 c = omega arith
-
-shared-slice-read-wide-2 : tie.Need-shared-slice-read-wide-2 Inv-loop μ-loop
-shared-slice-read-wide-2 c = omega arith
-
-wide-requires-2 : tie.Need-wide-requires-2 Inv-loop μ-loop
-wide-requires-2 c κs = search needs
+node-at-requires : tie.Need-node-at-requires Inv-loop μ-loop
+node-at-requires c κs = omega arith
 
 cast-levels-of : tie.Need-cast-levels-of Inv-loop μ-loop
 cast-levels-of c = omega arith
-
-mul-levels-of : tie.Need-mul-levels-of Inv-loop μ-loop
-mul-levels-of c = omega arith
-
-shared-slice-read-levels-of : tie.Need-shared-slice-read-levels-of Inv-loop μ-loop
-shared-slice-read-levels-of c = omega arith
 
 element-copy-out-levels-of : tie.Need-element-copy-out-levels-of Inv-loop μ-loop
 element-copy-out-levels-of c = omega arith
 
 -- the node that is passed is there
-present : (c : tie.After-wide Inv-loop μ-loop) → let l = c .before .before .before in l .loop .i < count (l .before .before .before .before .before .args .nodes .now)
+present : (c : tie.After-node-at Inv-loop μ-loop) → let l = c .before .before in l .loop .i < count (l .before .before .before .before .before .args .nodes .now)
 present c = omega arith
 
 -- the parts' numbers lie in the table
-left-bound : (c : tie.After-wide Inv-loop μ-loop) → c .wide .result < 63
+left-bound : (c : tie.After-node-at Inv-loop μ-loop) → c .node-at .result .left < 63
 left-bound c =
-    let l = c .before .before .before in
+    let l = c .before .before in
     let s = l .before .before .before .before .before in
-    rw (c .wide .ensures) (left-small (s .args .types .now) (s .args .nodes .now) (s .pre) (l .loop .i) (omega arith))
+    rw (c .node-at .ensures) (left-small (s .args .types .now) (s .args .nodes .now) (s .pre) (l .loop .i) (omega arith))
 
-right-bound : (c : tie.After-wide2 Inv-loop μ-loop) → c .wide2 .result < 63
+right-bound : (c : tie.After-node-at Inv-loop μ-loop) → c .node-at .result .right < 63
 right-bound c =
-    let l = c .before .before .before .before .before in
+    let l = c .before .before in
     let s = l .before .before .before .before .before in
-    rw (c .wide2 .ensures) (right-small (s .args .types .now) (s .args .nodes .now) (s .pre) (l .loop .i) (omega arith))
+    rw (c .node-at .ensures) (right-small (s .args .types .now) (s .args .nodes .now) (s .pre) (l .loop .i) (omega arith))
 
-mul-levels-of-2 : tie.Need-mul-levels-of-2 Inv-loop μ-loop
-mul-levels-of-2 c = omega (arith, left-bound (c .before .before .before .before))
+mul-levels-of : tie.Need-mul-levels-of Inv-loop μ-loop
+mul-levels-of c = omega (arith, left-bound (c .before))
 
 array-copy-out-levels-of : tie.Need-array-copy-out-levels-of Inv-loop μ-loop
-array-copy-out-levels-of c = left-bound (c .before .before .before .before)
+array-copy-out-levels-of c = left-bound (c .before)
 
-mul-levels-of-3 : tie.Need-mul-levels-of-3 Inv-loop μ-loop
-mul-levels-of-3 c = omega (arith, right-bound (c .before .before .before))
+mul-levels-of-2 : tie.Need-mul-levels-of-2 Inv-loop μ-loop
+mul-levels-of-2 c = omega (arith, right-bound (c .before .before))
 
 array-copy-out-levels-of-2 : tie.Need-array-copy-out-levels-of-2 Inv-loop μ-loop
-array-copy-out-levels-of-2 c = right-bound (c .before .before .before)
+array-copy-out-levels-of-2 c = right-bound (c .before .before)
 
 levels-of-requires : tie.Need-levels-of-requires Inv-loop μ-loop
 levels-of-requires c κs = search needs
@@ -121,16 +94,17 @@ loop-less c = omega arith
 
 loop-again : tie.Need-loop-again Inv-loop μ-loop
 loop-again c =
-    let l = c .before .before .before .before .before .before .before .before .before .before in
+    let x = c .before .before .before .before in
+    let l = x .before .before in
     let s = l .before .before .before .before .before in
     let b = s .args .nodes .now in
     let codes = s .args .codes .now in
     let i = l .loop .i in
-    let here = present (c .before .before .before .before .before .before .before) in
+    let here = present x in
     let table = l .loop .table in
     let e : c .levels-of .result ≡ cond (ltb (form b i) 3) (leafAt codes i) (nodeAt b i (getD table (left b i) blank) (getD table (right b i) blank)) =
-    rw (← c .before .before .before .before .before .before .before .wide .ensures, ← c .before .before .before .before .before .wide2 .ensures) (c .levels-of .ensures) in
-    (l .loop .inv .0, filled-more (leafAt codes) (nodeAt b) b blank (parts-smaller (s .args .types .now) b (s .pre)) i table (c .levels-of .result) here (omega (arith, here, s .pre .nodes-few)) e (l .loop .inv .1))
+    rw (x .node-at .ensures) at (c .levels-of .ensures) in
+    (l .loop .inv .0, filled-more (leafAt codes) (nodeAt b) b blank (parts-smaller (s .args .types .now) b (s .pre)) 63 i table (c .levels-of .result) here (omega (arith, here, s .pre .nodes-few)) e (l .loop .inv .1))
 
 sub-top : tie.Need-sub-top Inv-loop μ-loop
 sub-top c = omega arith
@@ -162,21 +136,12 @@ show-spec =
     nothing-requires
     ran-requires
     loop-holds
-    mul-wide
-    add-wide
-    shared-slice-read-wide
-    wide-requires
-    mul-wide-2
-    add-wide-2
-    shared-slice-read-wide-2
-    wide-requires-2
+    node-at-requires
     cast-levels-of
-    mul-levels-of
-    shared-slice-read-levels-of
     element-copy-out-levels-of
-    mul-levels-of-2
+    mul-levels-of
     array-copy-out-levels-of
-    mul-levels-of-3
+    mul-levels-of-2
     array-copy-out-levels-of-2
     levels-of-requires
     mul-table

@@ -2,85 +2,70 @@
 use mathlib.Core.Path.{_≡_, refl, ap, _∙_}
 use Prim.Native.Nat.{_-_, _/_, _<_}
 use native.Mathlib.Omega.{arith}
-use mathlib.Core.Bool.{cond}
+use mathlib.Core.Bool.{false, cond}
 use lib.Dec.{ltb}
 use lib.ListN.{length, getD}
 use borrow.Author.Needs.{needs}
 use Rattle.nodes.specs.Nodes.{count, form, left, right}
+use Rattle.nodes.proofs.Filled.{Filled, filled-none, filled-more}
 use Rattle.plan.proofs.Tree.{parts-smaller}
-use Rattle.runs.specs.TwoLevels.{leafTwo, nodeTwo, toldTwo}
-use Rattle.state.specs.State.{outcomeOf, toldBy}
-use Rattle.state.proofs.Filled.{blank, Filled, filled-none, filled-more}
+use Rattle.runs.specs.TwoLevels.{toldTwo}
+use Rattle.runs.specs.declared.Ended.the-variants.{Open}
+use Rattle.runs.specs.declared.Cell.{Cell}
+use Rattle.runs.specs.declared.Cells.{Cells}
+use Rattle.state.specs.State.{leafCells, nodeCells, toldBy}
 use Rattle.state.proofs.Sides.{left-small, right-small}
 use Rattle.state.proofs.told_by.Statement.{statement}
 use Rattle.state.proofs.told_by.Tie as tie
 
+-- what stands past the end of an array of cells
+abbrev blankCell : Cell
+blankCell = record { empty = false; begun = false; ended = Open; next = 0 }
+
+abbrev blank : Cells
+blank = record { forward = blankCell; undo = blankCell }
+
 abbrev Inv-loop : tie.InvT-loop
-Inv-loop types nodes table n cells₀ i₀ cells i = (n ≡ count nodes) × Filled nodes table i cells
+Inv-loop types nodes table n cells₀ i₀ cells i = (n ≡ count nodes) × Filled (leafCells table) (nodeCells nodes) nodes blank 63 i cells
 
 abbrev μ-loop : tie.MeasureT-loop
 μ-loop types nodes table n cells₀ i₀ cells i = n - i
 
 loop-holds : tie.Need-loop-holds Inv-loop μ-loop
-loop-holds c = (refl, filled-none (c .before .before .args .nodes .now) (c .before .before .args .table .now) _ refl)
+loop-holds c =
+    let a = c .before .before .args in
+    (refl, filled-none (leafCells (a .table .now)) (nodeCells (a .nodes .now)) (a .nodes .now) blank 63 _ refl)
 
-mul-wide : tie.Need-mul-wide Inv-loop μ-loop
-mul-wide c = omega arith
-
-add-wide : tie.Need-add-wide Inv-loop μ-loop
-add-wide c = omega arith
-
-shared-slice-read-wide : tie.Need-shared-slice-read-wide Inv-loop μ-loop
-shared-slice-read-wide c = omega arith
-
-wide-requires : tie.Need-wide-requires Inv-loop μ-loop
-wide-requires c κs = search needs
-
-mul-wide-2 : tie.Need-mul-wide-2 Inv-loop μ-loop
-mul-wide-2 c = omega arith
-
-add-wide-2 : tie.Need-add-wide-2 Inv-loop μ-loop
-add-wide-2 c = omega arith
-
-shared-slice-read-wide-2 : tie.Need-shared-slice-read-wide-2 Inv-loop μ-loop
-shared-slice-read-wide-2 c = omega arith
-
-wide-requires-2 : tie.Need-wide-requires-2 Inv-loop μ-loop
-wide-requires-2 c κs = search needs
-
-mul-cell-of : tie.Need-mul-cell-of Inv-loop μ-loop
-mul-cell-of c = omega arith
-
-shared-slice-read-cell-of : tie.Need-shared-slice-read-cell-of Inv-loop μ-loop
-shared-slice-read-cell-of c = omega arith
+node-at-requires : tie.Need-node-at-requires Inv-loop μ-loop
+node-at-requires c κs = omega arith
 
 element-copy-out-cell-of : tie.Need-element-copy-out-cell-of Inv-loop μ-loop
 element-copy-out-cell-of c = omega arith
 
 -- the parts' numbers lie in the table
-left-bound : (c : tie.After-wide Inv-loop μ-loop) → c .wide .result < 63
+left-bound : (c : tie.After-node-at Inv-loop μ-loop) → c .node-at .result .left < 63
 left-bound c =
-    let l = c .before .before .before in
+    let l = c .before .before in
     let s = l .before .before .before in
-    rw (c .wide .ensures) (left-small (s .args .types .now) (s .args .nodes .now) (s .pre) (l .loop .i) (omega arith))
+    rw (c .node-at .ensures) (left-small (s .args .types .now) (s .args .nodes .now) (s .pre) (l .loop .i) (omega arith))
 
-right-bound : (c : tie.After-wide2 Inv-loop μ-loop) → c .wide2 .result < 63
+right-bound : (c : tie.After-node-at Inv-loop μ-loop) → c .node-at .result .right < 63
 right-bound c =
-    let l = c .before .before .before .before .before in
+    let l = c .before .before in
     let s = l .before .before .before in
-    rw (c .wide2 .ensures) (right-small (s .args .types .now) (s .args .nodes .now) (s .pre) (l .loop .i) (omega arith))
+    rw (c .node-at .ensures) (right-small (s .args .types .now) (s .args .nodes .now) (s .pre) (l .loop .i) (omega arith))
 
-mul-cell-of-2 : tie.Need-mul-cell-of-2 Inv-loop μ-loop
-mul-cell-of-2 c = omega (arith, left-bound (c .before .before .before .before))
+mul-cell-of : tie.Need-mul-cell-of Inv-loop μ-loop
+mul-cell-of c = omega (arith, left-bound (c .before))
 
 array-copy-out-cell-of : tie.Need-array-copy-out-cell-of Inv-loop μ-loop
-array-copy-out-cell-of c = left-bound (c .before .before .before .before)
+array-copy-out-cell-of c = left-bound (c .before)
 
-mul-cell-of-3 : tie.Need-mul-cell-of-3 Inv-loop μ-loop
-mul-cell-of-3 c = omega (arith, right-bound (c .before .before .before))
+mul-cell-of-2 : tie.Need-mul-cell-of-2 Inv-loop μ-loop
+mul-cell-of-2 c = omega (arith, right-bound (c .before .before))
 
 array-copy-out-cell-of-2 : tie.Need-array-copy-out-cell-of-2 Inv-loop μ-loop
-array-copy-out-cell-of-2 c = right-bound (c .before .before .before)
+array-copy-out-cell-of-2 c = right-bound (c .before .before)
 
 cell-of-requires : tie.Need-cell-of-requires Inv-loop μ-loop
 cell-of-requires c κs = search needs
@@ -99,14 +84,16 @@ loop-less c = omega arith
 
 loop-again : tie.Need-loop-again Inv-loop μ-loop
 loop-again c =
-    let l = c .before .before .before .before .before .before .before .before .before .before in
+    let x = c .before .before .before .before in
+    let l = x .before .before in
     let s = l .before .before .before in
     let b = s .args .nodes .now in
+    let table = s .args .table .now in
     let i = l .loop .i in
     let cells = l .loop .cells in
-    let e : c .cell-of .result ≡ cond (ltb (form b i) 3) (leafTwo i (outcomeOf (getD (s .args .table .now) i 0))) (nodeTwo (form b i) (getD cells (left b i) blank) (getD cells (right b i) blank)) =
-    rw (← c .before .before .before .before .before .before .before .wide .ensures, ← c .before .before .before .before .before .wide2 .ensures) (c .cell-of .ensures) in
-    (l .loop .inv .0, filled-more b (s .args .table .now) (parts-smaller (s .args .types .now) b (s .pre)) (l .loop .i) (l .loop .cells) (c .cell-of .result) (omega arith) (omega (arith, s .pre .nodes-few)) e (l .loop .inv .1))
+    let e : c .cell-of .result ≡ cond (ltb (form b i) 3) (leafCells table i) (nodeCells b i (getD cells (left b i) blank) (getD cells (right b i) blank)) =
+    rw (x .node-at .ensures) at (c .cell-of .ensures) in
+    (l .loop .inv .0, filled-more (leafCells table) (nodeCells b) b blank (parts-smaller (s .args .types .now) b (s .pre)) 63 i cells (c .cell-of .result) (omega arith) (omega (arith, s .pre .nodes-few)) e (l .loop .inv .1))
 
 sub-tell : tie.Need-sub-tell Inv-loop μ-loop
 sub-tell c = omega arith
@@ -137,20 +124,11 @@ told-by-spec =
     Inv-loop
     μ-loop
     loop-holds
-    mul-wide
-    add-wide
-    shared-slice-read-wide
-    wide-requires
-    mul-wide-2
-    add-wide-2
-    shared-slice-read-wide-2
-    wide-requires-2
-    mul-cell-of
-    shared-slice-read-cell-of
+    node-at-requires
     element-copy-out-cell-of
-    mul-cell-of-2
+    mul-cell-of
     array-copy-out-cell-of
-    mul-cell-of-3
+    mul-cell-of-2
     array-copy-out-cell-of-2
     cell-of-requires
     mul-cells

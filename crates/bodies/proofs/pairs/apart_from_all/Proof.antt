@@ -1,4 +1,4 @@
--- `plan::pairs::apart_from_all` meets its contract: pair i may stand beside each pair passed.
+-- `bodies::pairs::apart_from_all` meets its contract: pair i may stand beside each pair passed.
 use mathlib.Core.Path.{_≡_, refl, sym, _∙_}
 use mathlib.Core.Bool.{Bool}
 use mathlib.Core.List.{List}

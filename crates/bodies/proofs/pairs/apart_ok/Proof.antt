@@ -1,4 +1,4 @@
--- `plan::pairs::apart_ok` meets its contract: each return by the tests that led there.
+-- `bodies::pairs::apart_ok` meets its contract: each return by the tests that led there.
 use borrow.Author.Tests.{eq-eqb, ne-eqb}
 use Rattle.bodies.proofs.pairs.apart_ok.Statement.{statement}
 use Rattle.bodies.proofs.pairs.apart_ok.Tie as tie

@@ -1,4 +1,4 @@
--- `plan::pairs::pair_ok` meets its contract: each return by the tests that led there.
+-- `bodies::pairs::pair_ok` meets its contract: each return by the tests that led there.
 use borrow.Author.Needs.{needs}
 use borrow.Author.Tests.{le-ltb, lt-ltb}
 use Rattle.bodies.proofs.pairs.pair_ok.Statement.{statement}

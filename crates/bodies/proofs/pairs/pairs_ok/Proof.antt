@@ -1,4 +1,4 @@
--- `plan::pairs::pairs_ok` meets its contract: each pair passed keeps the pair rule.
+-- `bodies::pairs::pairs_ok` meets its contract: each pair passed keeps the pair rule.
 use mathlib.Core.Path.{_≡_, refl, sym, _∙_}
 use mathlib.Core.Bool.{Bool}
 use mathlib.Core.List.{List}

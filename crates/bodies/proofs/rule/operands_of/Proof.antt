@@ -1,4 +1,4 @@
--- `plan::rule::operands_of` meets its contract: each return by the tests that led there.
+-- `bodies::rule::operands_of` meets its contract: each return by the tests that led there.
 use borrow.Author.Needs.{needs}
 use borrow.Author.Tests.{eq-eqb, le-ltb, lt-ltb, ne-eqb}
 use Rattle.bodies.proofs.rule.operands_of.Statement.{statement}

@@ -1,4 +1,4 @@
--- `plan::rule::rule_ok` meets its contract: what is left of the rule, from the values so far, is what the whole rule is from none.
+-- `bodies::rule::rule_ok` meets its contract: what is left of the rule, from the values so far, is what the whole rule is from none.
 use mathlib.Core.Path.{_≡_, refl, sym, _∙_}
 use Prim.Native.Nat.{_-_, _≤_}
 use native.Mathlib.Omega.{arith}

@@ -1,4 +1,4 @@
--- `plan::types::types_ok` meets its contract: each byte passed is a type.
+-- `bodies::types::types_ok` meets its contract: each byte passed is a type.
 use mathlib.Core.Path.{sym, _∙_}
 use mathlib.Core.Bool.{Bool}
 use mathlib.Core.List.{List}
