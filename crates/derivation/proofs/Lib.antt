@@ -1,4 +1,2 @@
-pub mod Pairs
-pub mod Cells
 pub mod Parts
 pub mod Descent

@@ -22,8 +22,8 @@ use Rattle.summary.proofs.Exact.{same-number}
 use Rattle.sets.specs.PlanSets.{actionSets}
 use Rattle.sets.specs.Fill.{Holds}
 use Rattle.derivation.specs.declared.Marks.{Marks}
-use Rattle.derivation.specs.declared.search.Parts.{Parts}
-use Rattle.derivation.specs.Search.{Makes, PartsOf}
+use Rattle.parts.specs.declared.Parts.{Parts}
+use Rattle.parts.specs.Search.{Makes, PartsOf}
 use Rattle.derivation.specs.Step.{codeAt, setAt, Marked, Same, Step}
 
 -- a table of 63 places after two stores, at places that are apart

@@ -11,8 +11,6 @@ ghost use Rattle.sets.specs.Fill.{Holds};
 ghost use Rattle.sets.specs.Derivation.{Derivation};
 ghost use Rattle.derivation.specs.Step.{Step};
 
-mod search;
-
 // Node i has the code codes[i] and the set sets[i].
 pub struct Marks {
     pub codes: [u8; 63],
@@ -33,7 +31,7 @@ fn step(types: &[u8], nodes: &[u8], work: &[u8], i: usize, m: Marks) -> Marks
     let r = x.right;
     let mut codes = m.codes;
     let mut sets = m.sets;
-    let p = search::parts_of(
+    let p = parts::parts_of(
         form,
         codes[i],
         area::load(work, l),

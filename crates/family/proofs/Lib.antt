@@ -1,7 +1,3 @@
 pub mod Numbers
 pub mod Bits
-pub mod Shifts
-pub mod Masks
 pub mod Words
-pub mod Tables
-pub mod Products

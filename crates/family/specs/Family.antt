@@ -35,19 +35,6 @@ pub record Joined (a b r : List ℕ) : Type 0 where
   pub left : (t : ℕ) → In a t → In r t
   pub right : (t : ℕ) → In b t → In r t
 
--- t is the union of a set of a and a set of b.
-pub record Union (a b : List ℕ) (t : ℕ) : Type 0 where
-  pub x : ℕ
-  pub y : ℕ
-  pub in-left : In a x
-  pub in-right : In b y
-  pub is : bitOr x y ≡ t
-
--- r has the unions of a set of a and a set of b.
-pub record Product (a b r : List ℕ) : Type 0 where
-  pub sound : (t : ℕ) → In r t → Union a b t
-  pub complete : (x y : ℕ) → In a x → In b y → In r (bitOr x y)
-
 -- The answer is true just where the family has no set.
 pub record TellsEmpty (f : List ℕ) (answer : Bool) : Type 0 where
   pub sound : answer ≡ true → Empty f

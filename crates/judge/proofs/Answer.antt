@@ -9,7 +9,7 @@ use Rattle.process.specs.Process.{Status}
 use Rattle.outcomes.specs.Families.{InFamily}
 use Rattle.outcomes.proofs.Members.{in-plan-sets, out-plan-sets}
 use Rattle.plan.specs.Tree.{processOf}
-use Rattle.rule.specs.Value.{satisfies}
+use Rattle.meaning.specs.Value.{satisfies}
 use Rattle.summary.specs.declared.Summary.{Summary}
 use Rattle.summary.specs.Summary.{familyOf}
 use Rattle.summary.specs.Exact.{Exact}

@@ -19,7 +19,7 @@ use Rattle.plan.specs.Reading.{readOf}
 use Rattle.plan.specs.declared.Layout.{Layout}
 use Rattle.plan.specs.declared.Reading.{Reading}
 use Rattle.plan.specs.declared.Reading.the-variants.{Accepted, Refused}
-use Rattle.rule.specs.Value.{values, satisfies}
+use Rattle.meaning.specs.Value.{values, satisfies}
 use Rattle.job.specs.Demand2.{planProcess}
 use Rattle.judge.specs.Verdict.{smallest, planSetsOf, workSize, recordSize, verdictOf}
 use Rattle.judge.specs.Shown.{runSet}

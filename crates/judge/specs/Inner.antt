@@ -11,7 +11,7 @@ use Rattle.outcomes.specs.Codes.{Final}
 use Rattle.nodes.specs.Nodes.{count}
 use Rattle.plan.specs.PlanFile.{Runnable}
 use Rattle.plan.specs.Tree.{processOf}
-use Rattle.rule.specs.Value.{satisfies}
+use Rattle.meaning.specs.Value.{satisfies}
 use Rattle.summary.specs.declared.Summary.{Summary}
 use Rattle.summary.specs.Summary.{familyOf}
 use Rattle.summary.specs.Exact.{Exact}

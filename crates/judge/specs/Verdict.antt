@@ -8,7 +8,7 @@ use Rattle.plan.specs.Reading.{bytesOf, readOf}
 use Rattle.plan.specs.declared.Layout.{Layout}
 use Rattle.plan.specs.declared.Reading.{Reading}
 use Rattle.plan.specs.declared.Reading.the-variants as reading
-use Rattle.rule.specs.Value.{satisfies}
+use Rattle.meaning.specs.Value.{satisfies}
 use Rattle.sets.specs.PlanSets.{setsOf}
 use Rattle.least.specs.declared.Least.{Least}
 use Rattle.least.specs.declared.Least.the-variants.{Found, Nothing}

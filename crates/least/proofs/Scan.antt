@@ -13,7 +13,7 @@ use borrow.Author.Tests.{eqb-true, eq-eqb}
 use Rattle.blocks.proofs.Bounded.{decide}
 use Rattle.family.specs.Family.{hasAt, In}
 use Rattle.family.proofs.Numbers.{same-or-other, below-or-above}
-use Rattle.rule.specs.Value.{satisfies}
+use Rattle.meaning.specs.Value.{satisfies}
 use Rattle.least.specs.Least.{Breaks, Smallest}
 
 module _ (rule pairs f : List ℕ) where

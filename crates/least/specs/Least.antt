@@ -6,7 +6,7 @@ use Prim.Native.Nat.{ℕ, _≤_}
 use Rattle.family.specs.Family.{In}
 use Rattle.process.specs.Process.{Status}
 use Rattle.outcomes.specs.Codes.{Final}
-use Rattle.rule.specs.Value.{satisfies}
+use Rattle.meaning.specs.Value.{satisfies}
 use Rattle.summary.specs.declared.Summary.{Summary}
 use Rattle.summary.specs.Summary.{familyOf}
 use Rattle.least.specs.declared.Least.{Least}

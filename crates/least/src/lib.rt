@@ -3,7 +3,7 @@ ghost use mathlib.Core.Path.{_≡_};
 ghost use mathlib.Core.Bool.{not, _&&_};
 ghost use lib.Dec.{eqb};
 ghost use Rattle.family.specs.Family.{hasAt};
-ghost use Rattle.rule.specs.Value.{satisfies};
+ghost use Rattle.meaning.specs.Value.{satisfies};
 ghost use Rattle.least.specs.Least.{Finals, LeastOf};
 use summary::Summary;
 

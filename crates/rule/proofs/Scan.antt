@@ -5,8 +5,8 @@ use Prim.Native.Nat.{ℕ, _+_, _≤_, _<_}
 use native.Mathlib.Numerals.{add-one}
 use lib.ListN.{length, drop, getD, drop-of-length-le}
 use lib.Seq.{drop-cons}
-use Rattle.rule.specs.declared.Value.{Value}
-use Rattle.rule.specs.Value.{step, values}
+use Rattle.meaning.specs.declared.Value.{Value}
+use Rattle.meaning.specs.Value.{step, values}
 
 module _ (pairs : List ℕ) (set : ℕ) (stack : List Value) (rule : List ℕ) (i : ℕ) where
   pub values-step : i < length rule

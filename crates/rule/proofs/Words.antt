@@ -12,8 +12,8 @@ use lib.ListN.{take}
 use lib.Pow.{mod-pow-add}
 use Rattle.blocks.specs.Bounded.{one}
 use Rattle.blocks.proofs.Bounded.{one-most}
-use Rattle.rule.specs.declared.Value.{Value}
-use Rattle.rule.specs.Value.{push, top, below}
+use Rattle.meaning.specs.declared.Value.{Value}
+use Rattle.meaning.specs.Value.{push, top, below}
 use Rattle.rule.specs.Words.{word}
 
 is-one : (t : Bool) → eqb (one t) 1 ≡ t

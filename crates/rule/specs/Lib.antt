@@ -1,6 +1,1 @@
-pub mod Literal
-pub mod Meaning
-pub mod Value
 pub mod Words
-pub mod Laws
-pub mod TriedRules

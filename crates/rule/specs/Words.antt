@@ -5,7 +5,7 @@ use mathlib.Core.Bool.{Bool}
 use mathlib.Core.List.{List, [], _∷_}
 use Prim.Native.Nat.{ℕ, _+_, _*_}
 use Rattle.blocks.specs.Bounded.{one}
-use Rattle.rule.specs.declared.Value.{Value}
+use Rattle.meaning.specs.declared.Value.{Value}
 use Rattle.rule.specs.declared.Stack.{Stack}
 
 -- the word of one of the two values

@@ -1,20 +1,16 @@
 // Whether an action set satisfies a rule. The rule and the pairs are lent; nothing else of a plan is seen.
+use meaning::Value;
+
 ghost use mathlib.Core.Path.{_≡_};
 ghost use mathlib.Core.List.{List};
 ghost use mathlib.Core.Bool.{_&&_};
 ghost use Prim.Native.Nat.{_+_, _*_, _%_, _^_};
 ghost use lib.Dec.{eqb};
 ghost use Rattle.blocks.specs.Bounded.{one};
-ghost use Rattle.rule.specs.Literal.{finished, undosFinished, literal};
-ghost use Rattle.rule.specs.Meaning.{swapped, both, either};
-ghost use Rattle.rule.specs.Value.{push, top, below, step, satisfies};
+ghost use Rattle.meaning.specs.Literal.{finished, undosFinished, literal};
+ghost use Rattle.meaning.specs.Meaning.{swapped, both, either};
+ghost use Rattle.meaning.specs.Value.{push, top, below, step, satisfies};
 ghost use Rattle.rule.specs.Words.{Holds};
-
-// The two values of a part of the rule.
-struct Value {
-    pub positive: bool,
-    pub negative: bool,
-}
 
 // A stack of 64 values, the last one in bit 0 of the two words. A place without a value is 0 in both.
 struct Stack {

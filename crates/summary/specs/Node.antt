@@ -4,7 +4,8 @@ use mathlib.Core.Path.{_≡_}
 use mathlib.Core.List.{List}
 use Prim.Native.Nat.{ℕ, _≤_, _<_}
 use lib.Bits.{bitOr}
-use Rattle.family.specs.Family.{In, Union}
+use Rattle.family.specs.Family.{In}
+use Rattle.product.specs.Product.{Union}
 use Rattle.outcomes.specs.Cells.{cell}
 use Rattle.summary.specs.declared.Summary.{Summary}
 use Rattle.summary.specs.Summary.{familyOf}

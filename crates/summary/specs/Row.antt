@@ -5,7 +5,8 @@ use mathlib.Core.List.{List}
 use Prim.Native.Nat.{ℕ, _*_, _/_, _%_, _^_, _<_}
 use lib.Bits.{bitOr}
 use lib.ListN.{getD}
-use Rattle.family.specs.Family.{In, Joined, Product}
+use Rattle.family.specs.Family.{In, Joined}
+use Rattle.product.specs.Product.{Product}
 use Rattle.outcomes.specs.Cells.{cell}
 use Rattle.summary.specs.declared.Summary.{Summary}
 use Rattle.summary.specs.Summary.{familyOf}

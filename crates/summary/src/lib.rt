@@ -90,7 +90,7 @@ fn grown(u: [u64; 16], x: [u64; 16], y: [u64; 16]) -> [u64; 16]
     if family::is_empty(y) {
         return u;
     }
-    let p = family::product(x, y);
+    let p = product::product(x, y);
     family::join(u, p)
 }
 

@@ -5,7 +5,7 @@ use lib.ListN.{length, length-map}
 use Rattle.nodes.specs.Nodes.{form, left, right}
 use Rattle.state.proofs.Sides.{left-small, right-small}
 use Rattle.area.specs.Area.{loaded}
-use Rattle.derivation.specs.Search.{PartsOf}
+use Rattle.parts.specs.Search.{PartsOf}
 use Rattle.derivation.specs.Step.{codeAt, setAt}
 use Rattle.derivation.proofs.Parts.{step-leaf, step-parts}
 use native.Mathlib.Omega.{arith}

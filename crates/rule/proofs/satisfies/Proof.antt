@@ -3,8 +3,8 @@ use mathlib.Core.Path.{_≡_, refl, sym, ap, _∙_}
 use mathlib.Core.List.{List, []}
 use Prim.Native.Nat.{_-_, _≤_}
 use lib.ListN.{length, drop, getD}
-use Rattle.rule.specs.declared.Value.{Value}
-use Rattle.rule.specs.Value.{top, step, values, satisfies}
+use Rattle.meaning.specs.declared.Value.{Value}
+use Rattle.meaning.specs.Value.{top, step, values, satisfies}
 use Rattle.rule.specs.Words.{word, Holds}
 use Rattle.rule.proofs.Scan.{values-step, values-end}
 use borrow.Author.Needs.{needs}

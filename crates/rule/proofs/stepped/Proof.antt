@@ -1,8 +1,8 @@
 -- `rule::stepped` meets its contract: each return by the tests that led there, and by what the calls give for the stack.
 use mathlib.Core.Path.{_∙_, ap, ap₂}
 use borrow.Author.Tests.{eq-eqb, ne-eqb}
-use Rattle.rule.specs.Meaning.{swapped, both, either}
-use Rattle.rule.specs.Value.{below}
+use Rattle.meaning.specs.Meaning.{swapped, both, either}
+use Rattle.meaning.specs.Value.{below}
 use borrow.Author.Needs.{needs}
 use Rattle.rule.proofs.stepped.Statement.{statement}
 use Rattle.rule.proofs.stepped.Tie as tie

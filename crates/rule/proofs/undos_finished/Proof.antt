@@ -5,7 +5,7 @@ use Prim.Native.Nat.{ℕ, _-_, _≤_}
 use Rattle.blocks.specs.Bounded.{total, one}
 use Rattle.blocks.proofs.Bounded.{total-more, one-most}
 use Rattle.bodies.specs.Pairs.{pairCount}
-use Rattle.rule.specs.Literal.{undoneBy}
+use Rattle.meaning.specs.Literal.{undoneBy}
 use borrow.Author.Needs.{needs}
 use native.Mathlib.Omega.{arith}
 use Rattle.rule.proofs.undos_finished.Statement.{statement}

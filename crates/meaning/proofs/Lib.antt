@@ -1,0 +1,4 @@
+pub mod Literal
+pub mod Meaning
+pub mod Laws
+pub mod TriedRules

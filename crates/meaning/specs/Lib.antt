@@ -1,0 +1,5 @@
+pub mod Literal
+pub mod Meaning
+pub mod Value
+pub mod Laws
+pub mod TriedRules

@@ -1,0 +1,4 @@
+pub mod Shifts
+pub mod Masks
+pub mod Tables
+pub mod Products
