@@ -82,16 +82,6 @@ module _ (s : ℕ) (small : s < 1024) where
     complete = λ l. stored-here (replicate 16 0) (s / 64) own-word fits s refl (rw own (own-bit (s % 64)));
   }
 
--- word 0 is 1, and the other words have no sets: the empty set alone
-pub unit-word : (f : List ℕ) → 0 < length f → getD f 0 0 ≡ 1 → Empty (set f 0 0) → Single 0 f
-unit-word f l one none = record {
-  sound = λ t on. elim (same-or-other (t / 64) 0) [
-    | inl e ↦ let w = ap (λ (k : ℕ). bitAt (getD f k 0) (t % 64)) e in (omega (arith, only-own-bit (t % 64) 0 (rw one at (sym w ∙ on))), omega arith)
-    | inr d ↦ absurd (none t (stored-other f 0 0 l t d on))
-  ];
-  complete = λ h. ap (λ (w : ℕ). bitAt w 0) one;
-}
-
 -- a loop that stores g i at i
 pub filled-more : (Q : ℕ → ℕ → Type 0) (r : List ℕ) (i v : ℕ) → i < length r → Q i v → ((k : ℕ) → k < i → Q k (getD r k 0)) → (k : ℕ) → k < i + 1 → Q k (getD (set r i v) k 0)
 filled-more Q r i v l new old =

@@ -1,3 +1,4 @@
+pub mod Unit
 pub mod Shifts
 pub mod Masks
 pub mod Tables

@@ -1,12 +1,18 @@
 -- The steps of the fast product: the actions of a set are added to every set of a word, a table of such words is made, and its words are
 -- joined. Only the contracts of the private functions cite these; `Product` says what comes of them.
 use mathlib.Core.Path.{_≡_}
+use mathlib.Core.Bool.{Bool, true}
 use mathlib.Core.Logic.{_⊎_}
 use mathlib.Core.List.{List}
 use Prim.Native.Nat.{ℕ, _+_, _*_, _^_, _<_}
 use lib.Bits.{bitOr}
 use lib.ListN.{getD}
-use Rattle.family.specs.Family.{bitAt, In}
+use Rattle.family.specs.Family.{bitAt, In, Single}
+
+-- The answer is true just where the family has the empty set alone.
+pub record TellsUnit (f : List ℕ) (answer : Bool) : Type 0 where
+  pub sound : answer ≡ true → Single 0 f
+  pub complete : Single 0 f → answer ≡ true
 
 -- j is x with a bit of the word w.
 pub record FromBit (w x j : ℕ) : Type 0 where

@@ -1,14 +1,11 @@
 // The product of two families: the unions of a set of the one and a set of the other.
-ghost use mathlib.Core.Path.{_≡_};
-ghost use mathlib.Core.Bool.{true};
 ghost use Prim.Native.Nat.{_<_, _^_};
-ghost use Rattle.family.specs.Family.{Single};
 ghost use Rattle.product.specs.Product.{Product};
-ghost use Rattle.product.specs.Steps.{Spread, Doubled, Spreads, Picked, Grown};
+ghost use Rattle.product.specs.Steps.{TellsUnit, Spread, Doubled, Spreads, Picked, Grown};
 
-// Whether the family has the empty set alone, as that of a node that did not run. Only a yes is relied on.
+// Whether the family has the empty set alone, as that of a node that did not run.
 fn is_unit(f: [u64; 16]) -> bool
-    ensures { λ r. ⌜ (r ≡ true → Single 0 f) ⌝ }
+    ensures { λ r. ⌜ TellsUnit f r ⌝ }
 {
     if f[0] != 1 {
         return false;

@@ -30,7 +30,7 @@ is-unit-requires c κs = search needs
 returns-2 : tie.Need-returns-2 Inv-loop μ-loop
 returns-2 c =
     let a = c .before .before .before .before .args in
-    product-unit-left (a .a) (a .t2) (c .before .is-unit .ensures (c .if2 .taken))
+    product-unit-left (a .a) (a .t2) (c .before .is-unit .ensures .sound (c .if2 .taken))
 
 is-unit-requires-2 : tie.Need-is-unit-requires-2 Inv-loop μ-loop
 is-unit-requires-2 c κs = search needs
@@ -38,7 +38,7 @@ is-unit-requires-2 c κs = search needs
 returns-3 : tie.Need-returns-3 Inv-loop μ-loop
 returns-3 c =
     let a = c .before .before .before .before .before .before .args in
-    product-unit-right (a .a) (a .t2) (c .before .is-unit2 .ensures (c .if3 .taken))
+    product-unit-right (a .a) (a .t2) (c .before .is-unit2 .ensures .sound (c .if3 .taken))
 
 loop-holds : tie.Need-loop-holds Inv-loop μ-loop
 loop-holds c =
