@@ -1,7 +1,7 @@
 // The parts of a data file, read one after the other.
 ghost use mathlib.Core.Path.{_≡_};
 ghost use lib.ListN.{length};
-ghost use Rattle.vectors.specs.Number.{FourOrCut};
+ghost use Rattle.fields.specs.Number.{FourOrCut};
 ghost use Rattle.compare.specs.Data.{Takes, saysEnd};
 use input::Filled;
 
@@ -35,7 +35,7 @@ pub fn number(fd: i32) -> u64
 {
     let mut b = [0u8; 4];
     let got = input::fill(fd, &mut b);
-    vectors::number::four_of(&b, got.count)
+    fields::number::four_of(&b, got.count)
 }
 
 // Whether a read of one byte says that the input has ended.

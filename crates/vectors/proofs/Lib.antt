@@ -1,3 +1,2 @@
 pub mod Rest
 pub mod Steps
-pub mod TellsJobs

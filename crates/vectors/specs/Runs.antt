@@ -11,9 +11,9 @@ use Rattle.job.specs.Job.{startOf, takeOf}
 use Rattle.job.specs.declared.Answer.{Answer}
 use Rattle.job.specs.declared.Job.{Job}
 use Rattle.job.specs.declared.Taken.{Taken}
-use Rattle.vectors.specs.Number.{numberAt}
-use Rattle.vectors.specs.Answer.{isAnswer}
-use Rattle.vectors.specs.Jobs.{sameJob, leftBy}
+use Rattle.fields.specs.Number.{numberAt}
+use Rattle.fields.specs.Answer.{isAnswer}
+use Rattle.fields.specs.Jobs.{sameJob, leftBy}
 use Rattle.vectors.specs.Tally.{heldAgainst}
 use Rattle.vectors.specs.declared.tally.Outcome.{Outcome}
 use Rattle.vectors.specs.declared.tally.Outcome.the-variants.{Damaged}

@@ -6,7 +6,7 @@ use Prim.Native.Nat.{ℕ, _-_, _/_, _%_}
 use lib.Dec.{ltb}
 use lib.ListN.{length, getD, drop}
 use Rattle.judge.specs.Verdict.{workSize, recordSize, verdictOf, codeOf}
-use Rattle.vectors.specs.Number.{fourAt}
+use Rattle.fields.specs.Number.{fourAt}
 use Rattle.vectors.specs.Tally.{heldAgainst}
 use Rattle.vectors.specs.declared.tally.Outcome.{Outcome}
 use Rattle.vectors.specs.declared.tally.Outcome.the-variants.{Damaged}

@@ -3,7 +3,7 @@
 ghost use mathlib.Core.Path.{_≡_};
 ghost use Rattle.plan.specs.Reading.{numberOf};
 ghost use Rattle.vectors.specs.Files.{filesOutcome};
-use crate::number::wide;
+use fields::number::wide;
 use crate::tally::Outcome;
 use crate::tally::held;
 use plan::Reading;

@@ -4,10 +4,7 @@ ghost use mathlib.Core.Path.{_≡_};
 ghost use Rattle.vectors.specs.Groups.{outcomeIn};
 use tally::Outcome;
 
-mod answer;
 pub mod files;
-mod jobs;
-pub mod number;
 pub mod runs;
 pub mod tally;
 pub mod verdicts;

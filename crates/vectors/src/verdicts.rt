@@ -6,7 +6,7 @@ ghost use Prim.Native.Nat.{_-_, _/_, _%_, _≤_};
 ghost use lib.ListN.{length};
 ghost use Rattle.judge.specs.Verdict.{verdictOf, codeOf};
 ghost use Rattle.vectors.specs.Verdicts.{codeWith, verdictsOutcome};
-use crate::number::four_at;
+use fields::number::four_at;
 use crate::tally::Outcome;
 use crate::tally::held;
 

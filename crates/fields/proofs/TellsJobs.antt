@@ -9,7 +9,7 @@ use lib.Seq.{ext-getD}
 use borrow.Author.Tests.{eqb-true, eq-eqb}
 use Rattle.blocks.proofs.Bounded.{both-true, every-at, every-all}
 use Rattle.job.specs.declared.Job.{Job}
-use Rattle.vectors.specs.Jobs.{sameBytes, sameJob, TellsJobs}
+use Rattle.fields.specs.Jobs.{sameBytes, sameJob, TellsJobs}
 
 same-only : (a b : List ℕ) → sameBytes a b ≡ true → a ≡ b
 unfolding sameBytes

@@ -1,9 +1,9 @@
--- `vectors::answer::is_answer` meets its contract: each return by the tests that led there.
+-- `fields::answer::is_answer` meets its contract: each return by the tests that led there.
 use borrow.Author.Tests.{eq-eqb, ne-eqb}
-use Rattle.vectors.specs.Answer.{isAnswer}
+use Rattle.fields.specs.Answer.{isAnswer}
 use borrow.Author.Needs.{needs}
-use Rattle.vectors.proofs.answer.is_answer.Statement.{statement}
-use Rattle.vectors.proofs.answer.is_answer.Tie as tie
+use Rattle.fields.proofs.answer.is_answer.Statement.{statement}
+use Rattle.fields.proofs.answer.is_answer.Tie as tie
 
 number-in-requires : tie.Need-number-in-requires
 number-in-requires c κs = search needs

@@ -3,7 +3,7 @@ ghost use mathlib.Core.Path.{_≡_};
 ghost use Prim.Native.Nat.{_+_, _<_};
 ghost use lib.ListN.{getD};
 ghost use Rattle.blocks.specs.Block.{le16};
-ghost use Rattle.vectors.specs.Number.{fourAt, fourOf, FourOrCut, numberAt};
+ghost use Rattle.fields.specs.Number.{fourAt, fourOf, FourOrCut, numberAt};
 
 pub fn wide(x: u8) -> u64
     ensures { λ r. ⌜ (r ≡ x) × (r < 256) ⌝ }

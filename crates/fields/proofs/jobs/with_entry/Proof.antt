@@ -1,8 +1,8 @@
--- `vectors::jobs::with_entry` meets its contract: each return by the test that led there.
+-- `fields::jobs::with_entry` meets its contract: each return by the test that led there.
 use borrow.Author.Needs.{needs}
 use borrow.Author.Tests.{lt-ltb, le-ltb}
-use Rattle.vectors.proofs.jobs.with_entry.Statement.{statement}
-use Rattle.vectors.proofs.jobs.with_entry.Tie as tie
+use Rattle.fields.proofs.jobs.with_entry.Statement.{statement}
+use Rattle.fields.proofs.jobs.with_entry.Tie as tie
 
 returns : tie.Need-returns
 returns c = simp (le-ltb _ _ (c .if1 .taken))

@@ -1,6 +1,6 @@
 // Whether two jobs are the same, and the job that an answer leaves.
 ghost use mathlib.Core.Path.{_≡_};
-ghost use Rattle.vectors.specs.Jobs.{sameBytes, sameJob, grown, leftBy};
+ghost use Rattle.fields.specs.Jobs.{sameBytes, sameJob, grown, leftBy};
 use job::Job;
 use state::Entry;
 

@@ -10,7 +10,7 @@ use Rattle.job.specs.declared.End.{End}
 use Rattle.job.specs.declared.End.the-variants.{Open, MayEnd}
 use Rattle.job.specs.declared.Answer.{Answer}
 use Rattle.job.specs.declared.Answer.the-variants.{Told, Refused}
-use Rattle.vectors.specs.Number.{numberAt}
+use Rattle.fields.specs.Number.{numberAt}
 
 -- the number of a refusal
 abbrev pub numberIn : Answer → ℕ

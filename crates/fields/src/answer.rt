@@ -3,7 +3,7 @@
 ghost use mathlib.Core.Path.{_≡_};
 ghost use Prim.Native.Nat.{_+_, _≤_};
 ghost use lib.ListN.{length};
-ghost use Rattle.vectors.specs.Answer.{numberIn, nextIn, endNumber, endIn, isAnswer};
+ghost use Rattle.fields.specs.Answer.{numberIn, nextIn, endNumber, endIn, isAnswer};
 use crate::number::number_at;
 use crate::number::wide;
 use job::Answer;

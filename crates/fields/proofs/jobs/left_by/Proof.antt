@@ -1,9 +1,9 @@
--- `vectors::jobs::left_by` meets its contract: each return by the test that led there.
+-- `fields::jobs::left_by` meets its contract: each return by the test that led there.
 use borrow.Author.Needs.{needs}
 use borrow.Author.Tests.{eq-eqb, ne-eqb}
-use Rattle.vectors.specs.Jobs.{leftBy}
-use Rattle.vectors.proofs.jobs.left_by.Statement.{statement}
-use Rattle.vectors.proofs.jobs.left_by.Tie as tie
+use Rattle.fields.specs.Jobs.{leftBy}
+use Rattle.fields.proofs.jobs.left_by.Statement.{statement}
+use Rattle.fields.proofs.jobs.left_by.Tie as tie
 
 with-entry-requires : tie.Need-with-entry-requires
 with-entry-requires c κs = search needs

@@ -1,10 +1,10 @@
--- `vectors::jobs::same_job` meets its contract: each return by the tests that led there.
+-- `fields::jobs::same_job` meets its contract: each return by the tests that led there.
 use mathlib.Core.Path.{sym, _∙_}
 use borrow.Author.Tests.{eq-eqb, ne-eqb, not-true, not-false}
-use Rattle.vectors.specs.Jobs.{sameJob}
+use Rattle.fields.specs.Jobs.{sameJob}
 use borrow.Author.Needs.{needs}
-use Rattle.vectors.proofs.jobs.same_job.Statement.{statement}
-use Rattle.vectors.proofs.jobs.same_job.Tie as tie
+use Rattle.fields.proofs.jobs.same_job.Statement.{statement}
+use Rattle.fields.proofs.jobs.same_job.Tie as tie
 
 returns : tie.Need-returns
 unfolding sameJob

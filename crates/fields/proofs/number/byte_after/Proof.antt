@@ -1,10 +1,10 @@
--- `vectors::number::byte_after` meets its contract: a place that fits no `usize` is past the end.
+-- `fields::number::byte_after` meets its contract: a place that fits no `usize` is past the end.
 use mathlib.Core.Path.{sym}
 use native.Mathlib.Omega.{arith}
 use lib.ListN.{List·getD-eq-default}
 use borrow.Author.Needs.{needs}
-use Rattle.vectors.proofs.number.byte_after.Statement.{statement}
-use Rattle.vectors.proofs.number.byte_after.Tie as tie
+use Rattle.fields.proofs.number.byte_after.Statement.{statement}
+use Rattle.fields.proofs.number.byte_after.Tie as tie
 
 sub-if1 : tie.Need-sub-if1
 sub-if1 c = search needs

@@ -1,10 +1,10 @@
--- `vectors::number::byte_at` meets its contract: past the end there is no byte.
+-- `fields::number::byte_at` meets its contract: past the end there is no byte.
 use mathlib.Core.Path.{sym}
 use native.Mathlib.Omega.{arith}
 use lib.ListN.{List·getD-eq-default}
 use borrow.Author.Needs.{needs}
-use Rattle.vectors.proofs.number.byte_at.Statement.{statement}
-use Rattle.vectors.proofs.number.byte_at.Tie as tie
+use Rattle.fields.proofs.number.byte_at.Statement.{statement}
+use Rattle.fields.proofs.number.byte_at.Tie as tie
 
 returns : tie.Need-returns
 returns c = (sym (List·getD-eq-default (c .before .before .args .s .now) 0 (c .if1 .taken)), omega arith)

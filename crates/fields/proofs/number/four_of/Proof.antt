@@ -1,10 +1,10 @@
--- `vectors::number::four_of` meets its contract: each return by the test that led there.
+-- `fields::number::four_of` meets its contract: each return by the test that led there.
 use mathlib.Core.Logic.{inl, inr}
 use mathlib.Core.Path.{refl}
 use borrow.Author.Tests.{lt-ltb, le-ltb}
 use borrow.Author.Needs.{needs}
-use Rattle.vectors.proofs.number.four_of.Statement.{statement}
-use Rattle.vectors.proofs.number.four_of.Tie as tie
+use Rattle.fields.proofs.number.four_of.Statement.{statement}
+use Rattle.fields.proofs.number.four_of.Tie as tie
 
 returns : tie.Need-returns
 returns c = (rw (lt-ltb _ _ (c .if1 .taken)), inr refl)

@@ -1,4 +1,4 @@
--- `vectors::jobs::same_bytes` meets its contract: each byte passed is the same in both areas.
+-- `fields::jobs::same_bytes` meets its contract: each byte passed is the same in both areas.
 use mathlib.Core.Bool.{Bool}
 use mathlib.Core.List.{List}
 use mathlib.Core.Path.{_≡_, sym}
@@ -8,9 +8,9 @@ use lib.Dec.{eqb}
 use lib.ListN.{length, getD}
 use borrow.Author.Tests.{eq-eqb, ne-eqb}
 use Rattle.blocks.proofs.Bounded.{every-fails, Passed, passed-none, passed-more, passed-all}
-use Rattle.vectors.specs.Jobs.{sameBytes}
-use Rattle.vectors.proofs.jobs.same_bytes.Statement.{statement}
-use Rattle.vectors.proofs.jobs.same_bytes.Tie as tie
+use Rattle.fields.specs.Jobs.{sameBytes}
+use Rattle.fields.proofs.jobs.same_bytes.Statement.{statement}
+use Rattle.fields.proofs.jobs.same_bytes.Tie as tie
 
 -- what each turn tests
 abbrev test : List ℕ → List ℕ → ℕ → Bool
