@@ -5,7 +5,6 @@ use runs::Cells;
 use runs::Composite;
 use runs::Ended;
 use runs::Told;
-
 ghost use mathlib.Core.Path.{_≡_};
 ghost use Rattle.runs.specs.Cells.{isSucceeded, isFailed, given, nodeBegun, nodeEnded, leftMay, rightMay, nodeCell, joinCell, thenUndo, leftNext};
 ghost use Rattle.runs.specs.TwoLevels.{compositeForm, leafTwo, formTwo, nodeTwo, toldTwo};

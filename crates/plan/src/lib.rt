@@ -1,7 +1,6 @@
 // The plan file: a reader that turns away every broken file by document 01's number for it, and takes every other one.
 use blocks::Heading;
 use blocks::Part;
-
 ghost use mathlib.Core.Path.{_≡_};
 ghost use Prim.Native.Nat.{_≤_, _+_};
 ghost use lib.ListN.{length};

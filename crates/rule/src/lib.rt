@@ -1,6 +1,5 @@
 // Whether an action set satisfies a rule. The rule and the pairs are lent; nothing else of a plan is seen.
 use meaning::Value;
-
 ghost use mathlib.Core.Path.{_≡_};
 ghost use mathlib.Core.List.{List};
 ghost use mathlib.Core.Bool.{_&&_};

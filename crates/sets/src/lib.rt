@@ -43,11 +43,7 @@ fn summary_of(types: &[u8], nodes: &[u8], work: &[u8], n: usize) -> Summary
     if f < 3 {
         return leaf(types, nodes, n);
     }
-    summary::node(
-        f,
-        area::load(work, x.left),
-        area::load(work, x.right),
-    )
+    summary::node(f, area::load(work, x.left), area::load(work, x.right))
 }
 
 // Puts the summary of every node into the work area.

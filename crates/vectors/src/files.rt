@@ -3,9 +3,9 @@
 ghost use mathlib.Core.Path.{_≡_};
 ghost use Rattle.plan.specs.Reading.{numberOf};
 ghost use Rattle.vectors.specs.Files.{filesOutcome};
-use fields::number::wide;
 use crate::tally::Outcome;
 use crate::tally::held;
+use fields::number::wide;
 use plan::Reading;
 
 fn number_of(reading: Reading) -> u64

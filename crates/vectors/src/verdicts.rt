@@ -6,9 +6,9 @@ ghost use Prim.Native.Nat.{_-_, _/_, _%_, _≤_};
 ghost use lib.ListN.{length};
 ghost use Rattle.judge.specs.Verdict.{verdictOf, codeOf};
 ghost use Rattle.vectors.specs.Verdicts.{codeWith, verdictsOutcome};
-use fields::number::four_at;
 use crate::tally::Outcome;
 use crate::tally::held;
+use fields::number::four_at;
 
 // The number of the verdict on a file, in areas of which `short` tells which lack a byte.
 fn code_in(short: u8, file: &[u8], work: &mut [u8], record: &mut [u8]) -> u64
