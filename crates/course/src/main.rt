@@ -16,18 +16,12 @@ fn tell(name: &[u8], file: &[u8]) {
 
 // The plan of this name. The largest plan file has 360 bytes, and a longer one is refused by the same number as its first 361 bytes.
 fn plan(name: &[u8]) {
-    let fd = os::open_read(name);
-    if fd < 0 {
-        os::fail(name);
-        return;
-    }
     let mut file = [0u8; 361];
-    let got = input::fill(fd, &mut file);
+    let got = input::fill_from(name, &mut file);
     if got.failed {
         os::fail(name);
         return;
     }
-    libc::close(fd);
     let n = got.count;
     tell(name, &file[..n]);
 }

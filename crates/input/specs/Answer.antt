@@ -2,6 +2,7 @@
 -- Which bytes came no contract can say, since they come from outside.
 use mathlib.Core.Bool.{true}
 use mathlib.Core.List.{List}
+use mathlib.Core.Logic.{_⊎_}
 use mathlib.Core.Path.{_≡_}
 use Prim.Native.Nat.{ℕ, _-_, _≤_, _<_}
 use lib.IntN.{ℤ, pos}
@@ -33,3 +34,8 @@ pub record Gives (n : ℕ) (buffer : List ℕ) (r : Filled) : Type 0 where
   pub short : r .failed ≡ true → r .count < n
   -- where some are not there, the last read gave nothing, and whether it failed is told
   pub last : r .count < n → OneRead (n - r .count) (record { count = 0; failed = r .failed })
+
+-- a file that cannot be opened gives nothing, and that it failed is told; any other is read as `Gives` says
+pub record FromFile (n : ℕ) (buffer : List ℕ) (r : Filled) : Type 0 where
+  pub within : Counts (r .count) buffer
+  pub is : (r ≡ record { count = 0; failed = true }) ⊎ Gives n buffer r

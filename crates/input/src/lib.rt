@@ -1,9 +1,9 @@
-// Reading from an open descriptor into a lent buffer, where a read that fails is told from the end of the input.
+// Reading from a descriptor or a file into a lent buffer, where a read that fails is told from the end of the input.
 ghost use mathlib.Core.Path.{_≡_};
 ghost use Prim.Native.Nat.{_-_, _≤_};
 ghost use lib.ListN.{length};
 ghost use Rattle.io.specs.Counts.{Counts};
-ghost use Rattle.input.specs.Answer.{answerOf, OneRead, Gives};
+ghost use Rattle.input.specs.Answer.{answerOf, OneRead, Gives, FromFile};
 
 // What reading gave: how many bytes stand at the start of the buffer, and whether a read failed after them
 // (`os::fail` then says why).
@@ -68,4 +68,22 @@ pub fn fill(fd: i32, buf: &mut [u8]) -> Filled
     ensures { λ r. ⌜ Gives (length (now (buf .entry))) (now (buf .exit)) r ⌝ }
 {
     fill_first(fd, buf, buf.len())
+}
+
+// Reads the file of this name, until the buffer is full, the file ends or something fails.
+pub fn fill_from(path: &[u8], buf: &mut [u8]) -> Filled
+    ensures { λ r. ⌜ FromFile (length (now (buf .entry))) (now (buf .exit)) r ⌝ }
+{
+    let fd = os::open_read(path);
+    if fd < 0 {
+        return Filled {
+            count: 0,
+            failed: true,
+        };
+    }
+    let got = fill(fd, buf);
+    if !got.failed {
+        libc::close(fd);
+    }
+    got
 }

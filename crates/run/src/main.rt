@@ -111,18 +111,12 @@ fn start(file: &[u8]) {
 
 // The largest plan file has 360 bytes, and a longer one is refused by the same number as its first 361 bytes.
 fn open(path: &[u8]) {
-    let fd = os::open_read(path);
-    if fd < 0 {
-        os::fail(path);
-        return;
-    }
     let mut file = [0u8; 361];
-    let got = input::fill(fd, &mut file);
+    let got = input::fill_from(path, &mut file);
     if got.failed {
         os::fail(path);
         return;
     }
-    libc::close(fd);
     let n = got.count;
     start(&file[..n]);
 }
