@@ -5,6 +5,7 @@ use mathlib.Core.List.{List}
 use mathlib.Core.Logic.{_⊎_}
 use mathlib.Core.Path.{_≡_}
 use Prim.Native.Nat.{ℕ, _-_, _≤_, _<_}
+use lib.ListN.{take, drop}
 use lib.IntN.{ℤ, pos}
 use lib.Signed.{ltZ}
 use Rattle.libc.specs.Io.{Moved}
@@ -24,6 +25,10 @@ pub record OneRead (room : ℕ) (r : Filled) : Type 0 where
   -- what follows of the two fields
   pub most : r .count ≤ room
   pub none : r .failed ≡ true → r .count ≡ 0
+
+-- the bytes before `start` and from `end` on are as they were
+abbrev pub Outside : ℕ → ℕ → List ℕ → List ℕ → Type 0
+Outside start end old new = (take start new ≡ take start old) × (drop end new ≡ drop end old)
 
 -- `n` bytes were asked for, and `buffer` is what the buffer holds now
 pub record Gives (n : ℕ) (buffer : List ℕ) (r : Filled) : Type 0 where

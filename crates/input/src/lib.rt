@@ -1,9 +1,9 @@
 // Reading from a descriptor or a file into a lent buffer, where a read that fails is told from the end of the input.
 ghost use mathlib.Core.Path.{_≡_};
 ghost use Prim.Native.Nat.{_-_, _≤_};
-ghost use lib.ListN.{length};
+ghost use lib.ListN.{length, drop};
 ghost use Rattle.io.specs.Counts.{Counts};
-ghost use Rattle.input.specs.Answer.{answerOf, OneRead, Gives, FromFile};
+ghost use Rattle.input.specs.Answer.{answerOf, OneRead, Outside, Gives, FromFile};
 
 // What reading gave: how many bytes stand at the start of the buffer, and whether a read failed after them
 // (`os::fail` then says why).
@@ -37,14 +37,16 @@ pub fn read_some(fd: i32, buf: &mut [u8]) -> Filled
 fn read_after(fd: i32, buf: &mut [u8], done: usize, n: usize) -> Filled
     requires { ⌜ (done ≤ n) × (n ≤ length (now buf)) ⌝ }
     ensures { λ r. ⌜ OneRead (n - done) r ⌝ }
+    ensures { λ r. ⌜ Outside done n (now (buf .entry)) (now (buf .exit)) ⌝ }
 {
     read_some(fd, &mut buf[done..n])
 }
 
-// Reads into the buffer's first `n` bytes, until they are there, the input ends or a read fails.
+// Reads into the buffer's first `n` bytes, until they are there, the input ends or a read fails. The bytes after them stay.
 pub fn fill_first(fd: i32, buf: &mut [u8], n: usize) -> Filled
     requires { ⌜ n ≤ length (now buf) ⌝ }
     ensures { λ r. ⌜ Gives n (now (buf .exit)) r ⌝ }
+    ensures { λ r. ⌜ drop n (now (buf .exit)) ≡ drop n (now (buf .entry)) ⌝ }
 {
     let mut done = 0;
     while done < n {

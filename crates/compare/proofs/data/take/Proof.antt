@@ -16,7 +16,7 @@ same-length c = search needs
 returns-2 : tie.Need-returns-2
 returns-2 c =
     let k = c .before .before .before in
-    record { within = k .fill-first .ensures .within; most = k .fill-first .ensures .most; whole = rw (le-leb _ _ (k .before .before .if1 .left)) }
+    record { within = k .fill-first .ensures .0 .within; most = k .fill-first .ensures .0 .most; whole = rw (le-leb _ _ (k .before .before .if1 .left)) }
 
 pub take-spec : {M : Type 1} → statement M
 take-spec = tie.close (tie.spec returns fill-first-requires same-length returns-2)
