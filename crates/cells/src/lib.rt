@@ -6,8 +6,10 @@ use runs::Composite;
 use runs::Ended;
 use runs::Told;
 ghost use mathlib.Core.Path.{_≡_};
-ghost use Rattle.runs.specs.Cells.{isSucceeded, isFailed, given, nodeBegun, nodeEnded, leftMay, rightMay, nodeCell, joinCell, thenUndo, leftNext};
-ghost use Rattle.runs.specs.TwoLevels.{compositeForm, leafTwo, formTwo, nodeTwo, toldTwo};
+ghost use mathlib.Core.Bool.{true, false};
+ghost use Prim.Native.Nat.{_<_};
+ghost use Rattle.runs.specs.Cells.{isSucceeded, isFailed, given, leafCell, nodeBegun, nodeEnded, leftMay, rightMay, nodeCell, joinCell, thenUndo, leftNext};
+ghost use Rattle.runs.specs.TwoLevels.{nothing, compositeForm, leafTwo, formTwo, nodeTwo, toldTwo};
 ghost use Rattle.process.specs.Forms.{formOf};
 
 // A parallel of which one side has failed and the other has not begun: it may end so.
@@ -226,49 +228,62 @@ pub fn node_cells(number: u8, a: Cells, b: Cells) -> Cells
     }
 }
 
-// A leaf by its node number and its outcome. Where the number is not below 64, as every node's of a plan is: nothing to run.
-pub fn leaf_cells(n: usize, outcome: Ended) -> Cells
-    ensures { λ r. ⌜ r ≡ leafTwo n outcome ⌝ }
+// Nothing to run.
+pub fn nothing() -> Cells
+    ensures { λ r. ⌜ r ≡ nothing ⌝ }
 {
-    let nothing = Cell {
+    let none = Cell {
         empty: true,
         begun: false,
         ended: Ended::Succeeded,
         next: 0,
     };
-    if 64 <= n {
-        return Cells {
-            forward: nothing,
-            undo: nothing,
-        };
+    Cells {
+        forward: none,
+        undo: none,
     }
+}
+
+// A leaf that has run.
+fn ran(outcome: Ended) -> Cell
+    ensures { λ r. ⌜ r ≡ record { empty = false; begun = true; ended = outcome; next = 0 } ⌝ }
+{
+    Cell {
+        empty: false,
+        begun: true,
+        ended: outcome,
+        next: 0,
+    }
+}
+
+// A leaf going forward.
+fn leaf_cell(n: usize, outcome: Ended) -> Cell
+    requires { ⌜ n < 64 ⌝ }
+    ensures { λ r. ⌜ r ≡ leafCell n outcome ⌝ }
+{
     match outcome {
-        Ended::Open => Cells {
-            forward: Cell {
-                empty: false,
-                begun: false,
-                ended: Ended::Open,
-                next: 1 << n,
-            },
-            undo: nothing,
+        Ended::Open => Cell {
+            empty: false,
+            begun: false,
+            ended: Ended::Open,
+            next: 1 << n,
         },
-        Ended::Succeeded => Cells {
-            forward: Cell {
-                empty: false,
-                begun: true,
-                ended: Ended::Succeeded,
-                next: 0,
-            },
-            undo: nothing,
-        },
-        Ended::Failed => Cells {
-            forward: Cell {
-                empty: false,
-                begun: true,
-                ended: Ended::Failed,
-                next: 0,
-            },
-            undo: nothing,
-        },
+        Ended::Succeeded => ran(Ended::Succeeded),
+        Ended::Failed => ran(Ended::Failed),
+    }
+}
+
+// A leaf by its node number and its outcome. Where the number is not below 64, as every node's of a plan is: nothing to run.
+pub fn leaf_cells(n: usize, outcome: Ended) -> Cells
+    ensures { λ r. ⌜ r ≡ leafTwo n outcome ⌝ }
+{
+    let none = nothing();
+    if 64 <= n {
+        return none;
+    }
+    let undo = none.undo;
+    Cells {
+        forward: leaf_cell(n, outcome),
+        undo,
     }
 }

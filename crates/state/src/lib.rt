@@ -1,5 +1,4 @@
 // The state of a job after its record: the outcomes of the leaves, and what the cells tell by them.
-use runs::Cell;
 use runs::Cells;
 use runs::Ended;
 use runs::Told;
@@ -52,16 +51,7 @@ pub fn told_by(types: &[u8], nodes: &[u8], table: &[u8; 63]) -> Told
     requires { ⌜ Runnable (now types) (now nodes) ⌝ }
     ensures { λ r. ⌜ r ≡ toldBy (now (nodes .entry)) (now (table .entry)) ⌝ }
 {
-    let nothing = Cell {
-        empty: true,
-        begun: false,
-        ended: Ended::Succeeded,
-        next: 0,
-    };
-    let none = Cells {
-        forward: nothing,
-        undo: nothing,
-    };
+    let none = cells::nothing();
     let n = nodes.len() / 3;
     let mut cells = [none; 63];
     let mut i = 0;

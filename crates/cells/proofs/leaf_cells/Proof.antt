@@ -1,21 +1,20 @@
--- `cells::leaf_cells` meets its contract: the number is tested, then the outcome is known.
+-- `cells::leaf_cells` meets its contract: by the test of the number.
 use borrow.Author.Needs.{needs}
 use borrow.Author.Tests.{lt-ltb, le-ltb}
-use Rattle.runs.proofs.Leaves.{one-leaf}
 use Rattle.cells.proofs.leaf_cells.Statement.{statement}
 use Rattle.cells.proofs.leaf_cells.Tie as tie
 
+nothing-requires : tie.Need-nothing-requires
+nothing-requires c κs = search needs
+
 returns : tie.Need-returns
-returns c = simp (le-ltb _ _ (c .if1 .taken))
+returns c = simp (le-ltb _ _ (c .if1 .taken), c .before .nothing .ensures)
+
+leaf-cell-requires : tie.Need-leaf-cell-requires
+leaf-cell-requires c κs = search needs
 
 returns-2 : tie.Need-returns-2
-returns-2 c = rw (c .enum-told .given .1, lt-ltb _ _ (c .before .before .if1 .left), one-leaf (c .before .before .before .args .n) (c .before .before .if1 .left))
-
-returns-3 : tie.Need-returns-3
-returns-3 c = rw (c .enum-told2 .given .1, lt-ltb _ _ (c .before .before .if1 .left))
-
-returns-4 : tie.Need-returns-4
-returns-4 c = rw (c .enum-told3 .given .1, lt-ltb _ _ (c .before .before .if1 .left))
+returns-2 c = rw (lt-ltb _ _ (c .before .before .if1 .left), c .before .before .before .nothing .ensures, c .leaf-cell .ensures)
 
 pub leaf-cells-spec : {M : Type 1} → statement M
-leaf-cells-spec = tie.close (tie.spec returns (λ c. search needs) (λ c. search needs) (λ c. search needs) (λ c. search needs) returns-2 returns-3 returns-4)
+leaf-cells-spec = tie.close (tie.spec nothing-requires returns leaf-cell-requires returns-2)

@@ -31,9 +31,12 @@ Inv-loop types nodes table n cells₀ i₀ cells i = (n ≡ count nodes) × Fill
 abbrev μ-loop : tie.MeasureT-loop
 μ-loop types nodes table n cells₀ i₀ cells i = n - i
 
+nothing-requires : tie.Need-nothing-requires Inv-loop μ-loop
+nothing-requires c κs = search needs
+
 loop-holds : tie.Need-loop-holds Inv-loop μ-loop
 loop-holds c =
-    let a = c .before .before .args in
+    let a = c .before .before .before .args in
     (refl, filled-none (leafCells (a .table .now)) (nodeCells (a .nodes .now)) (a .nodes .now) blank 63 _ refl)
 
 node-at-requires : tie.Need-node-at-requires Inv-loop μ-loop
@@ -46,13 +49,13 @@ element-copy-out-cell-of c = omega arith
 left-bound : (c : tie.After-node-at Inv-loop μ-loop) → c .node-at .result .left < 63
 left-bound c =
     let l = c .before .before in
-    let s = l .before .before .before in
+    let s = l .before .before .before .before in
     rw (c .node-at .ensures) (left-small (s .args .types .now) (s .args .nodes .now) (s .pre) (l .loop .i) (omega arith))
 
 right-bound : (c : tie.After-node-at Inv-loop μ-loop) → c .node-at .result .right < 63
 right-bound c =
     let l = c .before .before in
-    let s = l .before .before .before in
+    let s = l .before .before .before .before in
     rw (c .node-at .ensures) (right-small (s .args .types .now) (s .args .nodes .now) (s .pre) (l .loop .i) (omega arith))
 
 mul-cell-of : tie.Need-mul-cell-of Inv-loop μ-loop
@@ -86,7 +89,7 @@ loop-again : tie.Need-loop-again Inv-loop μ-loop
 loop-again c =
     let x = c .before .before .before .before in
     let l = x .before .before in
-    let s = l .before .before .before in
+    let s = l .before .before .before .before in
     let b = s .args .nodes .now in
     let table = s .args .table .now in
     let i = l .loop .i in
@@ -111,7 +114,7 @@ returns : tie.Need-returns Inv-loop μ-loop
 unfolding toldBy
 returns c =
     let l = c .before .before .before in
-    let s = l .before .before .before in
+    let s = l .before .before .before .before in
     let b = s .args .nodes .now in
     let last = length b / 3 - 1 in
     let e : c .tell .result ≡ toldTwo (getD (l .loop .cells) last blank) = c .tell .ensures in
@@ -123,6 +126,7 @@ told-by-spec =
     (tie.spec
     Inv-loop
     μ-loop
+    nothing-requires
     loop-holds
     node-at-requires
     element-copy-out-cell-of
