@@ -1,3 +1,4 @@
+-- `judge::final_code` meets its contract: of the three codes of complete runs, the first whose family has the set.
 use native.Mathlib.Omega.{arith}
 use mathlib.Core.Path.{sym, _∙_}
 use borrow.Author.Tests.{eqb-true}

@@ -1,4 +1,5 @@
-use native.Mathlib.Omega.{arith}
+-- `judge::judge` meets its contract: the work area is filled with the summaries, the last node's are loaded from it, and the smallest set that
+-- breaks the rule is sought among its final ones. `Judging` has what follows, for each answer.
 use mathlib.Core.Path.{refl}
 use Rattle.least.specs.declared.Least.the-variants.{Found, Nothing}
 use borrow.Author.Needs.{needs}
@@ -30,27 +31,43 @@ enum-known-set c = search needs
 run-leaving-requires : tie.Need-run-leaving-requires
 run-leaving-requires c κs =
     let d = c .before .before in
-    let s = c .before .before .before .before .before .before .before .before .before .before .before .before .before .before .before .before .before in
+    let find = d .before .before in
+    let finals = find .before in
+    let load = finals .before in
+    let fill = load .before .before .before .before in
+    let s = fill .before .before .before .before .before .before .before in
     let a = s .args in
-    leaving (a .types .now) (a .pairs .now) (a .nodes .now) (a .rule .now) (a .work .now) _ (s .pre .0) (c .before .before .before .before .before .before .before .before .before .before .fill .ensures) _ (c .before .before .before .before .before .before .load .ensures) _ (c .before .before .before .before .before .finals .ensures) _ _ (d .set .given .1) (c .before .before .before .before .find .ensures)
+    leaving (a .types .now) (a .pairs .now) (a .nodes .now) (a .rule .now) (a .work .now) _ (s .pre .0) (fill .fill .ensures) _ (load .load .ensures) _ (finals .finals .ensures)
+    _ _ (d .set .given .1) (find .find .ensures)
 
 same-length : tie.Need-same-length
 same-length c = search needs
 
 returns : tie.Need-returns
 returns c =
-    let s = c .before .before .before .before .before .before .before .before .before .before .before .before .before .before .before in
+    let find = c .before .before in
+    let finals = find .before in
+    let load = finals .before in
+    let fill = load .before .before .before .before in
+    let s = fill .before .before .before .before .before .before .before in
     let a = s .args in
-    judged-plan (a .types .now) (a .pairs .now) (a .nodes .now) (a .rule .now) (a .work .now) _ (s .pre .0) (c .before .before .before .before .before .before .before .before .fill .ensures) _ (c .before .before .before .before .load .ensures) _ (c .before .before .before .finals .ensures) _ Nothing _ (c .enum-told .given .1) (c .before .before .find .ensures) refl
+    judged-plan (a .types .now) (a .pairs .now) (a .nodes .now) (a .rule .now) (a .work .now) _ (s .pre .0) (fill .fill .ensures) _ (load .load .ensures) _ (finals .finals .ensures)
+    _ Nothing _ (c .enum-told .given .1) (find .find .ensures) refl
 
 same-length-2 : tie.Need-same-length-2
 same-length-2 c = search needs
 
 returns-2 : tie.Need-returns-2
 returns-2 c =
-    let s = c .before .before .before .before .before .before .before .before .before .before .before .before .before .before .before .before .before .before in
+    let d = c .before .before .before in
+    let find = d .before .before in
+    let finals = find .before in
+    let load = finals .before in
+    let fill = load .before .before .before .before in
+    let s = fill .before .before .before .before .before .before .before in
     let a = s .args in
-    judged-plan (a .types .now) (a .pairs .now) (a .nodes .now) (a .rule .now) (a .work .now) _ (s .pre .0) (c .before .before .before .before .before .before .before .before .before .before .before .fill .ensures) _ (c .before .before .before .before .before .before .before .load .ensures) _ (c .before .before .before .before .before .before .finals .ensures) _ (Found _) _ (c .before .before .before .set .given .1) (c .before .before .before .before .before .find .ensures) (c .run-leaving .ensures)
+    judged-plan (a .types .now) (a .pairs .now) (a .nodes .now) (a .rule .now) (a .work .now) _ (s .pre .0) (fill .fill .ensures) _ (load .load .ensures) _ (finals .finals .ensures)
+    _ (Found _) _ (d .set .given .1) (find .find .ensures) (c .run-leaving .ensures)
 
 pub judge-spec : {M : Type 1} → statement M
 judge-spec =

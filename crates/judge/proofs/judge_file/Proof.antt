@@ -1,3 +1,4 @@
+-- `judge::judge_file` meets its contract: the bodies lie inside the file, the plan is judged, the areas are written; `File` joins these.
 use native.Mathlib.Omega.{arith}
 use Rattle.plan.proofs.Inside.{types-inside, pairs-inside, nodes-inside, rule-inside}
 use Rattle.plan.proofs.Demand1.{runnable}

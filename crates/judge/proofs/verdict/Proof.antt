@@ -1,3 +1,4 @@
+-- `judge::verdict` meets its contract: each refusal in its order changes nothing, and an accepted file is judged.
 use native.Mathlib.Omega.{arith}
 use mathlib.Core.Path.{refl, sym, _∙_}
 use lib.ListN.{length}
