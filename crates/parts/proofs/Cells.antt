@@ -1,6 +1,6 @@
 -- The search over the cells of the chart: cell k of 49 has the left code k / 7 and the right code k % 7. The cells passed do not make the
 -- set (`NoCell`), in the end none does, since a code above 6 has no sets.
-use mathlib.Core.Path.{_≡_, sym, _∙_}
+use mathlib.Core.Path.{_≡_, sym, ap, _∙_}
 use mathlib.Core.Bool.{true, false, false≢true}
 use mathlib.Core.Logic.{inl, inr}
 use Prim.Native.Nat.{ℕ, _+_, _*_, _/_, _%_, _<_}
@@ -14,7 +14,7 @@ use Rattle.summary.specs.Summary.{familyOf}
 use Rattle.summary.specs.Node.{FromCell}
 use Rattle.summary.proofs.Codes.{beyond}
 use Rattle.parts.specs.declared.Parts.{Parts}
-use Rattle.parts.specs.Search.{AtCell, PartsOf}
+use Rattle.parts.specs.Search.{nowhere, AtCell, PartsOf}
 
 -- the cell of two codes makes the set under the code
 pub record Has (form code : ℕ) (a b : Summary) (set l r : ℕ) : Type 0 where
@@ -26,10 +26,11 @@ NoCell form code a b set n = (k : ℕ) → k < n → ¬ Has form code a b set (k
 
 module _ (form code : ℕ) (a b : Summary) (set : ℕ) where
   -- the answer that nothing is found, where there is nothing
-  pub cell-none : (l r : ℕ) (p : Parts) → p .found ≡ false → ¬ Has form code a b set l r → AtCell form code a b set l r p
+  pub cell-none : (l r : ℕ) (p : Parts) → p ≡ nowhere → ¬ Has form code a b set l r → AtCell form code a b set l r p
   cell-none l r p off none = record {
-    sound = λ e. absurd (false≢true (sym off ∙ e));
+    sound = λ e. absurd (false≢true (sym (ap (λ (q : Parts). q .found) off) ∙ e));
     complete = λ c u. absurd (none (record { is-cell = c; union = u }));
+    else = λ e. off;
   }
 
   pub no-cell-more : (k : ℕ) (p : Parts) → NoCell form code a b set k → AtCell form code a b set (k / 7) (k % 7) p → p .found ≡ false → NoCell form code a b set (k + 1)
@@ -49,5 +50,9 @@ module _ (form code : ℕ) (a b : Summary) (set : ℕ) where
     ]
   ]
 
-  pub parts-none : (p : Parts) → p .found ≡ false → NoCell form code a b set 49 → PartsOf form code a b set p
-  parts-none p off none = record { sound = λ e. absurd (false≢true (sym off ∙ e)); complete = λ f. absurd (no-cell-at-all none f) }
+  pub parts-none : (p : Parts) → p ≡ nowhere → NoCell form code a b set 49 → PartsOf form code a b set p
+  parts-none p off none = record {
+    sound = λ e. absurd (false≢true (sym (ap (λ (q : Parts). q .found) off) ∙ e));
+    complete = λ f. absurd (no-cell-at-all none f);
+    else = λ e. off;
+  }

@@ -1,6 +1,6 @@
 -- What the search for a node's parts promises, both ways: what it finds makes the set, and where it finds nothing there is nothing.
 use mathlib.Core.Path.{_≡_}
-use mathlib.Core.Bool.{true}
+use mathlib.Core.Bool.{true, false}
 use mathlib.Core.List.{List}
 use Prim.Native.Nat.{ℕ, _/_, _<_, _≤_}
 use lib.Bits.{bitOr}
@@ -46,12 +46,18 @@ pub record Makes (form code : ℕ) (a b : Summary) (set : ℕ) (l r : Mark) : Ty
   pub in-right : In (familyOf b (r .code)) (r .set)
   pub is : bitOr (l .set) (r .set) ≡ set
 
+-- No parts.
+abbrev pub nowhere : Parts
+nowhere = record { found = false; left = record { code = 0; set = 0 }; right = record { code = 0; set = 0 } }
+
 -- The answer for one cell.
 pub record AtCell (form code : ℕ) (a b : Summary) (set l r : ℕ) (p : Parts) : Type 0 where
   pub sound : p .found ≡ true → Makes form code a b set (p .left) (p .right)
   pub complete : cell form l r ≡ code → Union (familyOf a l) (familyOf b r) set → p .found ≡ true
+  pub else : p .found ≡ false → p ≡ nowhere
 
 -- The answer for a node: parts are found just where the chart has the set for it under the code.
 pub record PartsOf (form code : ℕ) (a b : Summary) (set : ℕ) (p : Parts) : Type 0 where
   pub sound : p .found ≡ true → Makes form code a b set (p .left) (p .right)
   pub complete : FromCell form a b code set → p .found ≡ true
+  pub else : p .found ≡ false → p ≡ nowhere

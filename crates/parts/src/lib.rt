@@ -1,9 +1,8 @@
 // The search for the parts of a node: a cell of the outcome chart, and a set of each side under the cell's codes, whose union is the
 // node's set.
 ghost use mathlib.Core.Path.{_≡_};
-ghost use mathlib.Core.Bool.{false};
 ghost use Prim.Native.Nat.{_<_, _+_, _-_, min};
-ghost use Rattle.parts.specs.Search.{After, RightOf, Beside, SplitBy, AtCell, PartsOf};
+ghost use Rattle.parts.specs.Search.{After, RightOf, Beside, SplitBy, nowhere, AtCell, PartsOf};
 use summary::Summary;
 
 // A node's code and set.
@@ -104,8 +103,9 @@ fn split_by(x: [u64; 16], y: [u64; 16], set: usize) -> Split
     Split::Nowhere
 }
 
+// No parts.
 fn none() -> Parts
-    ensures { λ r. ⌜ r .found ≡ false ⌝ }
+    ensures { λ r. ⌜ r ≡ nowhere ⌝ }
 {
     let nothing = Mark { code: 0, set: 0 };
     Parts {

@@ -1,6 +1,7 @@
 -- `parts::at_cell` meets its contract: another cell, a set that the product lacks and a split that is not found each mean that
 -- the cell does not make the set.
 use mathlib.Core.Path.{refl, sym, _∙_}
+use mathlib.Core.Bool.{true≢false}
 use borrow.Author.Tests.{eqb-false, not-true}
 use Rattle.product.specs.Product.{Union, Product}
 use Rattle.summary.specs.Summary.{familyOf}
@@ -76,6 +77,7 @@ returns-3 c =
         is = found .2;
       };
       complete = λ k u. refl;
+      else = λ q. absurd (true≢false q);
     }
 
 returns-4 : tie.Need-returns-4

@@ -22,7 +22,7 @@ at-cell-requires c κs = search needs
 returns : tie.Need-returns Inv-loop μ-loop
 returns c =
     let p = c .before .at-cell in
-    record { sound = p .ensures .sound; complete = λ f. c .if1 .taken }
+    record { sound = p .ensures .sound; complete = λ f. c .if1 .taken; else = p .ensures .else }
 
 add-k : tie.Need-add-k Inv-loop μ-loop
 add-k c = omega arith
