@@ -30,6 +30,7 @@ pub record Passed (types b : List ℕ) (code set i : ℕ) (m : Marks) : Type 0 w
   pub top-set : setAt m (count b - 1) ≡ set
   pub member : (j : ℕ) → j < count b → Settled b i j → Marked types b m j
   pub comes : (k : ℕ) → i ≤ k → k < count b → 3 ≤ form b k → Comes b m k
+  pub past : (k : ℕ) → count b ≤ k → (codeAt m k ≡ 0) × (setAt m k ≡ 0)
 
 -- what is said of marks that are the same
 same-marked : (types b : List ℕ) (old new : Marks) (j : ℕ) → Same old new j → Marked types b old j → Marked types b new j
@@ -49,8 +50,9 @@ module _ (types b : List ℕ) (run : Runnable types b) where
       o .only p s n .0 ∙ sym (o .only q t m .0)
 
   module _ (code set : ℕ) where
-    pub passed-none : (m : Marks) → codeAt m (count b - 1) ≡ code → setAt m (count b - 1) ≡ set → InFamily (actionSets b) (processOf types b) code set → Passed types b code set (count b) m
-    passed-none m c s h = record {
+    pub passed-none : (m : Marks) → codeAt m (count b - 1) ≡ code → setAt m (count b - 1) ≡ set → InFamily (actionSets b) (processOf types b) code set
+        → ((k : ℕ) → count b ≤ k → (codeAt m k ≡ 0) × (setAt m k ≡ 0)) → Passed types b code set (count b) m
+    passed-none m c s h clear = record {
       most = omega arith;
       top-code = c;
       top-set = s;
@@ -59,6 +61,7 @@ module _ (types b : List ℕ) (run : Runnable types b) where
         | inr d ↦ let o = run .nodes-hold .once j (omega arith) in absurd (omega (arith, settled (o .node) (o .side) (o .names), o .names .present))
       ];
       comes = λ k l h. absurd (omega arith);
+      past = clear;
     }
 
     -- a node is settled when its turn comes
@@ -108,7 +111,14 @@ module _ (types b : List ℕ) (run : Runnable types b) where
       pub passed-more : Passed types b code set i new
       passed-more =
           let top = late (count b - 1) (omega arith) in
-          record { most = omega arith; top-code = top .code ∙ p .top-code; top-set = top .set ∙ p .top-set; member = member-more; comes = comes-more }
+          record {
+            most = omega arith;
+            top-code = top .code ∙ p .top-code;
+            top-set = top .set ∙ p .top-set;
+            member = member-more;
+            comes = comes-more;
+            past = λ k l. let e = late k (omega arith) in (e .code ∙ p .past k l .0, e .set ∙ p .past k l .1);
+          }
 
     pub passed-all : (m : Marks) → Passed types b code set 0 m → Derivation types b code set (m .codes) (m .sets)
     passed-all m p = record {
@@ -117,4 +127,5 @@ module _ (types b : List ℕ) (run : Runnable types b) where
       member = λ i l. p .member i l (λ q s n. omega arith);
       cells = λ i l f. p .comes i (omega arith) l f .is-cell;
       unions = λ i l f. p .comes i (omega arith) l f .is-union;
+      past = p .past;
     }

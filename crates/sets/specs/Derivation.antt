@@ -19,3 +19,5 @@ pub record Derivation (types b : List ℕ) (code set : ℕ) (codes sets : List �
   -- "under a cell's code, every union of one left set under the cell's left code and one right set under its right code"
   pub cells : (i : ℕ) → i < count b → 3 ≤ form b i → cell (form b i) (getD codes (left b i) 0) (getD codes (right b i) 0) ≡ getD codes i 0
   pub unions : (i : ℕ) → i < count b → 3 ≤ form b i → bitOr (getD sets (left b i) 0) (getD sets (right b i) 0) ≡ getD sets i 0
+  -- nothing is said past the last node
+  pub past : (i : ℕ) → count b ≤ i → (getD codes i 0 ≡ 0) × (getD sets i 0 ≡ 0)

@@ -1,14 +1,28 @@
 -- `derivation::derive` meets its contract: the nodes from i on have been passed (`Passed`).
-use mathlib.Core.Path.{_≡_, subst}
-use Prim.Native.Nat.{ℕ, _+_, _-_, _<_}
-use lib.ListN.{replicate}
-use lib.Seq.{getD-set-same}
+use mathlib.Core.Path.{_≡_, subst, _∙_}
+use mathlib.Core.Logic.{_⊎_, inl, inr}
+use mathlib.Core.List.{List}
+use Prim.Native.Nat.{ℕ, _+_, _-_, _<_, _≤_}
+use lib.ListN.{getD, set, replicate, getD-replicate, List·getD-eq-default}
+use lib.Seq.{getD-set-same, getD-set-other}
+use Rattle.family.proofs.Numbers.{below-or-above}
 use Rattle.nodes.specs.Nodes.{count}
 use Rattle.derivation.proofs.Descent.{Passed, passed-none, turn, passed-more, passed-all}
 use borrow.Author.Needs.{needs}
 use native.Mathlib.Omega.{arith}
 use Rattle.derivation.proofs.derive.Statement.{statement}
 use Rattle.derivation.proofs.derive.Tie as tie
+
+-- every other place of a table that has one entry
+abbrev zeros : List ℕ
+zeros = replicate 63 0
+
+clear : (i v k : ℕ) → ¬ (k ≡ i) → getD (set zeros i v) k 0 ≡ 0
+clear i v k d = getD-set-other zeros i k v 0 d ∙ zero (below-or-above k 63)
+  where
+    zero : (k < 63) ⊎ (63 ≤ k) → getD zeros k 0 ≡ 0
+    zero (inl l) = getD-replicate 63 k 0 0 l
+    zero (inr l) = List·getD-eq-default zeros 0 {n = k} l
 
 abbrev Inv-loop : tie.InvT-loop
 Inv-loop types nodes work code set i₀ m₀ i m = Passed types nodes code set i m
@@ -37,7 +51,8 @@ loop-holds c =
     let b = s .args .nodes .now in
     let l : count b - 1 < 63 = omega (arith, s .pre .0 .nodes-few) in
     passed-none (s .args .types .now) b (s .pre .0) (s .args .code) (s .args .set) _
-    (getD-set-same (replicate 63 0) (count b - 1) (s .args .code) 0 l) (getD-set-same (replicate 63 0) (count b - 1) (s .args .set) 0 l) (s .pre .2)
+    (getD-set-same zeros (count b - 1) (s .args .code) 0 l) (getD-set-same zeros (count b - 1) (s .args .set) 0 l) (s .pre .2)
+    (λ k h. (clear (count b - 1) (s .args .code) k (λ e. omega (arith, s .pre .0 .nodes-some)), clear (count b - 1) (s .args .set) k (λ e. omega (arith, s .pre .0 .nodes-some))))
 
 sub-i : tie.Need-sub-i Inv-loop μ-loop
 sub-i c = search needs
