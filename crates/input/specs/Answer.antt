@@ -40,7 +40,8 @@ pub record Gives (n : ℕ) (buffer : List ℕ) (r : Filled) : Type 0 where
   -- where some are not there, the last read gave nothing, and whether it failed is told
   pub last : r .count < n → OneRead (n - r .count) (record { count = 0; failed = r .failed })
 
--- a file that cannot be opened gives nothing, and that it failed is told; any other is read as `Gives` says
-pub record FromFile (n : ℕ) (buffer : List ℕ) (r : Filled) : Type 0 where
+-- A file that cannot be opened gives nothing and leaves the buffer as it was, and that it failed is told; any other is read as `Gives`
+-- says.
+pub record FromFile (n : ℕ) (old buffer : List ℕ) (r : Filled) : Type 0 where
   pub within : Counts (r .count) buffer
-  pub is : (r ≡ record { count = 0; failed = true }) ⊎ Gives n buffer r
+  pub is : ((r ≡ record { count = 0; failed = true }) × (buffer ≡ old)) ⊎ Gives n buffer r

@@ -74,7 +74,7 @@ pub fn fill(fd: i32, buf: &mut [u8]) -> Filled
 
 // Reads the file of this name, until the buffer is full, the file ends or something fails.
 pub fn fill_from(path: &[u8], buf: &mut [u8]) -> Filled
-    ensures { λ r. ⌜ FromFile (length (now (buf .entry))) (now (buf .exit)) r ⌝ }
+    ensures { λ r. ⌜ FromFile (length (now (buf .entry))) (now (buf .entry)) (now (buf .exit)) r ⌝ }
 {
     let fd = os::open_read(path);
     if fd < 0 {

@@ -6,7 +6,7 @@ use Prim.Native.Nat.{ℕ, _+_, _-_, _*_}
 use lib.Dec.{leb, ltb, eqb}
 use lib.ListN.{length, getD, set, take, replicate}
 use Rattle.blocks.specs.Bounded.{every}
-use Rattle.plan.specs.Reading.{bytesOf, readOf}
+use Rattle.plan.specs.Reading.{nodeLimit, ruleLimit, bytesOf, readOf}
 use Rattle.plan.specs.declared.Layout.{Layout}
 use Rattle.plan.specs.declared.Reading.{Reading}
 use Rattle.plan.specs.declared.Reading.the-variants as reading
@@ -15,6 +15,7 @@ use Rattle.runs.specs.declared.Ended.the-variants as ended
 use Rattle.runs.specs.declared.Told as cells
 use Rattle.state.specs.State.{toldBy, mayCome, freshTable, stateAfter}
 use Rattle.state.specs.declared.Entry.{Entry}
+use Rattle.job.specs.declared.Limits.{Limits}
 use Rattle.job.specs.declared.Status.the-variants.{Succeeded, Failed}
 use Rattle.job.specs.declared.End.{End}
 use Rattle.job.specs.declared.End.the-variants.{Open, MayEnd}
@@ -108,3 +109,7 @@ takeOn j e (reading.Refused n) = refusal 11 j
 -- An entry to a job.
 abbrev pub takeOf : Job → Entry → Taken
 takeOf j e = cond (tidy j) (takeOn j e (readOf (planOf j))) (refusal 11 j)
+
+-- "the limits 10, 63 and 127"
+abbrev pub limits : Limits
+limits = record { actions = 10; nodes = nodeLimit; rule = ruleLimit }

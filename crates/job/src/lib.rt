@@ -10,7 +10,7 @@ ghost use lib.Dec.{ltb, eqb};
 ghost use lib.ListN.{length};
 ghost use Rattle.plan.specs.PlanFile.{Runnable};
 ghost use Rattle.plan.specs.Reading.{bytesOf, readOf};
-ghost use Rattle.job.specs.Job.{endOf, saying, refusal, noJob, freshJob, startWith, startOf, zerosFrom, tidy, withEntry, isOpen, stalled, afterEntry, takeWith, takeOn, takeOf, planOf};
+ghost use Rattle.job.specs.Job.{limits, endOf, saying, refusal, noJob, freshJob, startWith, startOf, zerosFrom, tidy, withEntry, isOpen, stalled, afterEntry, takeWith, takeOn, takeOf, planOf};
 
 pub enum Status {
     Succeeded,
@@ -250,6 +250,13 @@ fn take_in(s: &[u8], j: Job, e: Entry) -> Taken
     }
 }
 
+// How many actions, nodes and rule bytes a plan file may have.
+pub struct Limits {
+    pub actions: u8,
+    pub nodes: u8,
+    pub rule: u8,
+}
+
 impl Job {
     // The limits of a plan file: the reader's own.
     pub const MOST_ACTIONS: u8 = plan::MOST_ACTIONS;
@@ -257,6 +264,17 @@ impl Job {
     pub const MOST_NODES: u8 = plan::MOST_NODES;
 
     pub const MOST_RULE: u8 = plan::MOST_RULE;
+
+    // The three as a value: its contract is what holds the constants to document 01's numbers.
+    pub fn limits() -> Limits
+        ensures { λ r. ⌜ r ≡ limits ⌝ }
+    {
+        Limits {
+            actions: Job::MOST_ACTIONS,
+            nodes: Job::MOST_NODES,
+            rule: Job::MOST_RULE,
+        }
+    }
 
     // Starts a job from the bytes of a plan file.
     pub fn start(file: &[u8]) -> Taken

@@ -9,7 +9,7 @@ open-read-requires : tie.Need-open-read-requires
 open-read-requires c κs = search needs
 
 returns : tie.Need-returns
-returns c = record { within = search needs; is = inl refl }
+returns c = record { within = search needs; is = inl (refl, refl) }
 
 fill-requires : tie.Need-fill-requires
 fill-requires c κs = search needs
