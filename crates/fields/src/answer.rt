@@ -3,7 +3,8 @@
 ghost use mathlib.Core.Path.{_≡_};
 ghost use Prim.Native.Nat.{_+_, _≤_};
 ghost use lib.ListN.{length};
-ghost use Rattle.fields.specs.Answer.{numberIn, nextIn, endNumber, endIn, isAnswer};
+ghost use Rattle.job.specs.Numbers.{numberOf, nextOf, endNumber, endOf};
+ghost use Rattle.fields.specs.Answer.{isAnswer};
 use crate::number::number_at;
 use crate::number::wide;
 use job::Answer;
@@ -11,7 +12,7 @@ use job::End;
 use job::Status;
 
 fn number_in(a: Answer) -> u64
-    ensures { λ r. ⌜ r ≡ numberIn a ⌝ }
+    ensures { λ r. ⌜ r ≡ numberOf a ⌝ }
 {
     match a {
         Answer::Told(_) => 0,
@@ -20,7 +21,7 @@ fn number_in(a: Answer) -> u64
 }
 
 fn next_in(a: Answer) -> u64
-    ensures { λ r. ⌜ r ≡ nextIn a ⌝ }
+    ensures { λ r. ⌜ r ≡ nextOf a ⌝ }
 {
     match a {
         Answer::Told(told) => told.next,
@@ -41,7 +42,7 @@ fn end_number(e: End) -> u64
 }
 
 fn end_in(a: Answer) -> u64
-    ensures { λ r. ⌜ r ≡ endIn a ⌝ }
+    ensures { λ r. ⌜ r ≡ endOf a ⌝ }
 {
     match a {
         Answer::Told(told) => {

@@ -6,12 +6,12 @@ use native.Mathlib.Omega.{arith}
 use Rattle.plan.specs.Reading.{readOf}
 use Rattle.plan.specs.declared.Layout.{Layout}
 use Rattle.plan.specs.declared.Reading.the-variants.{Accepted, Refused}
-use Rattle.job.specs.Job.{noJob, startOn, planOf}
+use Rattle.job.specs.Job.{noJob, startOn, startOf, planOf}
 use Rattle.job.specs.Offer.{Real, offer, started}
 use Rattle.job.specs.Demand2.{Demand2}
 use Rattle.job.specs.declared.Job.{Job}
 use Rattle.job.proofs.Good.{Good}
-use Rattle.job.proofs.Standing.{Fine, honest, started-fine, offered-fine}
+use Rattle.job.proofs.Standing.{Fine, refuses-so, honest, started-fine, offered-fine}
 use Rattle.job.proofs.Real.{false-refused, never-stalls}
 
 -- no file is empty
@@ -26,8 +26,8 @@ no-job-real r =
 
 pub demand2 : Demand2
 demand2 = record {
-  starts = λ s l h. ap (startOn s) h;
-  turns-away = λ s n h. ap (startOn s) h;
+  starts = λ s l h. rw h (record { number = refl; next = refl; end = refl; job = refl });
+  turns-away = λ s n h. refuses-so n noJob (startOf s) (ap (startOn s) h);
   honest = λ s l h es. honest s l h (offer (started s l) es) (offered-fine s l h es (started s l) (started-fine s l h));
   false-jobs = false-refused;
   no-job = no-job-real;

@@ -18,6 +18,7 @@ use Rattle.plan.specs.declared.Reading.{Reading}
 use Rattle.plan.specs.declared.Reading.the-variants as reading
 use Rattle.state.specs.State.{mayCome, freshTable, replay, entryAt, entriesFrom, stateAfter}
 use Rattle.job.specs.Job.{refusal, freshJob, planOf, zerosFrom, tidy, withEntry, takeWith, takeOn, takeOf}
+use Rattle.job.specs.Numbers.{numberOf, Refuses}
 use Rattle.job.specs.Offer.{Standing, onAnswer, next, offer, started, recordOf, Real, Sized}
 use Rattle.state.specs.declared.Entry.{Entry}
 use Rattle.job.specs.declared.Answer.{Answer}
@@ -30,6 +31,7 @@ use Rattle.job.proofs.Areas.{zero-past, padded-back}
 use Rattle.job.proofs.Outcomes.{zeros-at}
 use Rattle.job.proofs.Entries.{last-entry}
 use Rattle.job.proofs.Good.{Good, fresh-good, not-taken, taken-so, next-good}
+use Rattle.job.proofs.Standing.{refuses-so}
 
 -- the first k entries of a record, and zeros after them
 unfoldable firsts : List ℕ → ℕ → List ℕ
@@ -218,27 +220,27 @@ refused-or-good j z e = go (decide (tidy j))
     go (inr h) = inl (ap tidied h)
 
 -- a job that is not real is refused
-pub false-refused : (j : Job) → Sized j → (Real j → ⊥) → (e : Entry) → takeOf j e ≡ refusal 11 j
+pub false-refused : (j : Job) → Sized j → (Real j → ⊥) → (e : Entry) → Refuses 11 j (takeOf j e)
 false-refused j z n e = go (refused-or-good j z e)
   where
-    go : (takeOf j e ≡ refusal 11 j) ⊎ ((l : Layout) × (acc : readOf (planOf j) ≡ reading.Accepted l) × Good (planOf j) l acc j) → takeOf j e ≡ refusal 11 j
-    go (inl q) = q
+    go : (takeOf j e ≡ refusal 11 j) ⊎ ((l : Layout) × (acc : readOf (planOf j) ≡ reading.Accepted l) × Good (planOf j) l acc j) → Refuses 11 j (takeOf j e)
+    go (inl q) = refuses-so 11 j (takeOf j e) q
     go (inr (l, acc, g)) = absurd (n (real-job j l z (g .neat) acc (ap (λ (x : Replayed). x .ok) (g .state))))
 
 -- 13 never falls
-pub never-stalls : (j : Job) → Sized j → (e : Entry) → takeOf j e .answer ≡ answer.Refused 13 → ⊥
+pub never-stalls : (j : Job) → Sized j → (e : Entry) → numberOf (takeOf j e .answer) ≡ 13 → ⊥
 never-stalls j z e h = go (refused-or-good j z e)
   where
-    other : (t : Taken) → takeOf j e ≡ t → t .answer ≡ answer.Refused 13
-    other t q = ap (λ (x : Taken). x .answer) (sym q) ∙ h
+    other : (t : Taken) → takeOf j e ≡ t → numberOf (t .answer) ≡ 13
+    other t q = ap (λ (x : Taken). numberOf (x .answer)) (sym q) ∙ h
 
     on-entry : (l : Layout) (acc : readOf (planOf j) ≡ reading.Accepted l) (g : Good (planOf j) l acc j)
         → (mayCome (bytesOf (planOf j) (l .types)) (bytesOf (planOf j) (l .nodes)) (g .table) (e .leaf) (e .outcome) ≡ true)
         ⊎ (mayCome (bytesOf (planOf j) (l .types)) (bytesOf (planOf j) (l .nodes)) (g .table) (e .leaf) (e .outcome) ≡ false)
         → ⊥
-    on-entry l acc g (inl m) = let q = other _ (taken-so (planOf j) l acc j g e m) in let x : _≡_ {A = ℕ} 0 1 = cc in omega arith
-    on-entry l acc g (inr m) = let q = other _ (not-taken (planOf j) l acc j g e m) in let x : _≡_ {A = ℕ} 11 13 = cc in omega arith
+    on-entry l acc g (inl m) = absurd (omega (arith, other _ (taken-so (planOf j) l acc j g e m)))
+    on-entry l acc g (inr m) = absurd (omega (arith, other _ (not-taken (planOf j) l acc j g e m)))
 
     go : (takeOf j e ≡ refusal 11 j) ⊎ ((l : Layout) × (acc : readOf (planOf j) ≡ reading.Accepted l) × Good (planOf j) l acc j) → ⊥
-    go (inl p) = let q = other _ p in let x : _≡_ {A = ℕ} 11 13 = cc in omega arith
+    go (inl p) = absurd (omega (arith, other _ p))
     go (inr (l, acc, g)) = on-entry l acc g (decide _)

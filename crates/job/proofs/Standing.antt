@@ -17,14 +17,11 @@ use Rattle.runs.specs.declared.Ended.{Ended}
 use Rattle.runs.specs.declared.Ended.the-variants as ended
 use Rattle.runs.specs.declared.Told as cells
 use Rattle.state.specs.State.{toldBy, mayCome}
-use Rattle.job.specs.Job.{endOf, saying, refusal, withEntry, takeOf}
+use Rattle.job.specs.Job.{endOf, saying, refusal, takeOf}
 use Rattle.job.specs.Offer.{Standing, onAnswer, next, offer, started, statusNumber, statusOf, runEntry, recordOf}
-use Rattle.job.specs.Demand2.{planProcess, saysEnd, Continues, Honest}
+use Rattle.job.specs.Demand2.{planProcess, Continues, Takes, Honest}
+use Rattle.job.specs.Numbers.{numberOf, endNumber, Refuses}
 use Rattle.state.specs.declared.Entry.{Entry}
-use Rattle.job.specs.declared.End.{End}
-use Rattle.job.specs.declared.End.the-variants.{Open, MayEnd}
-use Rattle.job.specs.declared.Status.the-variants.{Succeeded, Failed}
-use Rattle.job.specs.declared.Told.{Told}
 use Rattle.job.specs.declared.Taken.{Taken}
 use Rattle.job.specs.declared.Job.{Job}
 use Rattle.job.proofs.Outcomes.{told-of}
@@ -33,13 +30,16 @@ use Rattle.job.proofs.Followed.{Reached}
 use Rattle.job.proofs.Good.{Good, runs-on, good-reached, fresh-good, not-taken, taken-so, record-more, next-good}
 
 -- what is said of an ending
-said : (x : Ended) (s : Status) → (endOf x ≡ MayEnd (saysEnd s)) ↔ (x ≡ ending s)
-said ended.Open ok = (λ e. cc, λ e. cc)
-said ended.Open fail = (λ e. cc, λ e. cc)
+said : (x : Ended) (s : Status) → (endNumber (endOf x) ≡ statusNumber s) ↔ (x ≡ ending s)
+said ended.Open ok = (λ e. absurd (omega arith), λ e. cc)
+said ended.Open fail = (λ e. absurd (omega arith), λ e. cc)
 said ended.Succeeded ok = (λ e. refl, λ e. refl)
-said ended.Succeeded fail = (λ e. cc, λ e. cc)
-said ended.Failed ok = (λ e. cc, λ e. cc)
+said ended.Succeeded fail = (λ e. absurd (omega arith), λ e. cc)
+said ended.Failed ok = (λ e. absurd (omega arith), λ e. cc)
 said ended.Failed fail = (λ e. refl, λ e. refl)
+
+pub refuses-so : (n : ℕ) (j : Job) (t : Taken) → t ≡ refusal n j → Refuses n j t
+refuses-so n j t e = record { number = ap (λ (x : Taken). numberOf (x .answer)) e; unchanged = ap (λ (x : Taken). x .job) e }
 
 module _ (s : List ℕ) (l : Layout) (acc : readOf s ≡ Accepted l) where
   abbrev T : List ℕ
@@ -71,12 +71,21 @@ module _ (s : List ℕ) (l : Layout) (acc : readOf s ≡ Accepted l) where
         let (to, from) = comes T N (runs-on s l acc) w (f .good .table) (reached .stands) (reached .begins) (e .leaf) (e .outcome) in
         (λ h. let (t, o, z) = to h in record { status = t; outcome = o; begins = z }, λ c. from (c .status, c .outcome, c .begins))
 
-    refused-so : (e : Entry) → (Continues P w e → ⊥) → takeOf (x .job) e ≡ refusal 11 (x .job)
+    takes-so : (e : Entry) → Continues P w e → Takes e w (takeOf (x .job) e)
+    takes-so e c =
+        let h = continues e .1 c in
+        let is = taken-so s l acc (x .job) (f .good) e h in
+        record {
+          number = ap (λ (t : Taken). numberOf (t .answer)) is;
+          recorded = ap (λ (t : Taken). recordOf (t .job)) is ∙ record-more s l acc (x .job) (f .good) e h;
+        }
+
+    refused-so : (e : Entry) → (Continues P w e → ⊥) → Refuses 11 (x .job) (takeOf (x .job) e)
     refused-so e n = go (decide (may e))
       where
-        go : (may e ≡ true) ⊎ (may e ≡ false) → takeOf (x .job) e ≡ refusal 11 (x .job)
+        go : (may e ≡ true) ⊎ (may e ≡ false) → Refuses 11 (x .job) (takeOf (x .job) e)
         go (inl h) = absurd (n (continues e .0 h))
-        go (inr h) = not-taken s l acc (x .job) (f .good) e h
+        go (inr h) = refuses-so 11 (x .job) (takeOf (x .job) e) (not-taken s l acc (x .job) (f .good) e h)
 
     told-is : x .told ≡ saying (record { ended = toldEnded 1 P w; next = toldNext 1 P w })
     told-is = f .told ∙ ap saying (told-of T N (runs-on s l acc) w (f .good .table) (reached .stands))
@@ -84,9 +93,7 @@ module _ (s : List ℕ) (l : Layout) (acc : readOf s ≡ Accepted l) where
     pub honest : Honest P x
     honest = record {
       begins = reached .begins;
-      takes = λ e c.
-          let h = continues e .1 c in
-          (_, withEntry (x .job) e, taken-so s l acc (x .job) (f .good) e h, record-more s l acc (x .job) (f .good) e h);
+      takes = takes-so;
       refuses = refused-so;
       ends = λ t. (
         λ h. told-begins T N (runs-on s l acc) .ends w (reached .begins) t .0 (said (toldEnded 1 P w) t .0 (rw told-is at h)),

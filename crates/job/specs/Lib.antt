@@ -1,3 +1,4 @@
 pub mod Job
+pub mod Numbers
 pub mod Offer
 pub mod Demand2
