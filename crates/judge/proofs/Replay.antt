@@ -13,12 +13,12 @@ use Rattle.state.specs.State.{entriesFrom}
 use Rattle.state.specs.declared.Entry.{Entry}
 use Rattle.job.specs.Job.{takeOf}
 use Rattle.job.specs.Offer.{Standing, onAnswer, next, offer, started, statusNumber, statusOf, runEntry, recordOf}
-use Rattle.job.specs.Demand2.{planProcess, saysEnd, Continues, Honest}
+use Rattle.job.specs.Numbers.{numberOf, endNumber}
+use Rattle.job.specs.Demand2.{planProcess, Continues, Honest}
 use Rattle.job.specs.declared.Told.{Told}
 use Rattle.job.specs.declared.Job.{Job}
-use Rattle.job.specs.declared.Taken.{Taken}
+use Rattle.job.specs.declared.Answer.{Answer}
 use Rattle.job.specs.declared.Answer.the-variants as answer
-use Rattle.job.specs.declared.End.the-variants.{MayEnd}
 use Rattle.job.proofs.Demand2.{demand2}
 use Rattle.judge.specs.Demand3.{TakesAll, no-more, one-more, Replays}
 
@@ -35,24 +35,27 @@ unfolding offer
 offer-more x [] e = refl
 offer-more x (d ∷ es) e = offer-more (next x d) es e
 
+answer-job : (a : Answer) (j : Job) (t : Told) → onAnswer a j t .job ≡ j
+answer-job (answer.Told u) j t = refl
+answer-job (answer.Refused n) j t = refl
+
+-- the next entry goes to the job that is handed back
+next-job : (x : Standing) (e : Entry) → next x e .job ≡ takeOf (x .job) e .job
+next-job x e = answer-job (takeOf (x .job) e .answer) (takeOf (x .job) e .job) (x .told)
+
 module _ (s : List ℕ) (l : Layout) (h : readOf s ≡ Accepted l) where
   abbrev at : List Entry → Standing
   at es = offer (started s l) es
 
-  -- an entry that continues the record is taken, and the job then stands where it does after one entry more
+  -- an entry that continues the record is taken, and the record then has it more
   pub record Goes (before : List Entry) (e : Entry) : Type 0 where
-    pub told : Told
-    pub job : Job
-    pub taken : takeOf (at before .job) e ≡ record { answer = answer.Told told; job = job }
-    pub stands : at (before ++ (e ∷ [])) ≡ record { job = job; told = told }
+    pub taken : numberOf (takeOf (at before .job) e .answer) ≡ 0
     pub recorded : recordOf (at (before ++ (e ∷ [])) .job) ≡ recordOf (at before .job) ++ (runEntry e ∷ [])
 
   goes : (before : List Entry) (e : Entry) → WithStatus e → Begins (planProcess s l) (recordOf (at before .job) ++ (runEntry e ∷ [])) → Goes before e
   goes before e a begins =
-      let (t, j, taken, recorded) = demand2 .honest s l h before .takes e (record { status = statusOf (e .outcome); outcome = a; begins = begins }) in
-      let stands : at (before ++ (e ∷ [])) ≡ record { job = j; told = t } =
-      offer-more (started s l) before e ∙ ap (λ (x : Taken). onAnswer (x .answer) (x .job) (at before .told)) taken in
-      record { told = t; job = j; taken = taken; stands = stands; recorded = ap (λ (x : Standing). recordOf (x .job)) stands ∙ recorded }
+      let t = demand2 .honest s l h before .takes e (record { status = statusOf (e .outcome); outcome = a; begins = begins }) in
+      record { taken = t .number; recorded = rw (offer-more (started s l) before e, next-job (at before) e) (t .recorded) }
 
   snoc-runs : (es : List Entry) (e : Entry) → map runEntry (es ++ (e ∷ [])) ≡ map runEntry es ++ (runEntry e ∷ [])
   snoc-runs [] e = refl
@@ -63,7 +66,7 @@ module _ (s : List ℕ) (l : Layout) (h : readOf s ≡ Accepted l) where
 
   -- where the record is what was offered so far, the rest of a complete run is taken
   abbrev Rest : List Entry → List Entry → Status → Type 0
-  Rest before es status = (y : Standing) × TakesAll (at before) es y × (y .told .end ≡ MayEnd (saysEnd status))
+  Rest before es status = (y : Standing) × TakesAll (at before) es y × (endNumber (y .told .end) ≡ statusNumber status)
 
   takes-rest : (es before : List Entry) (status : Status) → AllStatus es → recordOf (at before .job) ≡ map runEntry before
       → Complete (planProcess s l) (map runEntry before ++ map runEntry es) status → Rest before es status
@@ -73,7 +76,7 @@ module _ (s : List ℕ) (l : Layout) (h : readOf s ≡ Accepted l) where
       let d : Complete (planProcess s l) (map runEntry longer ++ map runEntry es) status = rw (cons-after before e es) at c in
       let g = goes before e a (rw (r, ← snoc-runs before e) (map runEntry es, status, d)) in
       let (y, t, z) = takes-rest es longer status b (g .recorded ∙ rw (r, snoc-runs before e)) d in
-      (y, one-more (g .told) (g .job) (g .taken) (subst (λ (x : Standing). TakesAll x es y) (g .stands) t), z)
+      (y, one-more (g .taken) (subst (λ (x : Standing). TakesAll x es y) (offer-more (started s l) before e) t), z)
 
   pub replays : (es : List Entry) (status : Status) → AllStatus es → Complete (planProcess s l) (map runEntry es) status → Replays s l es status
   unfolding offer entriesFrom

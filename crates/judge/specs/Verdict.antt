@@ -1,6 +1,6 @@
 -- The verdict on a plan file, for every list of bytes and any lengths of the two lent areas: the definition that the contract of `verdict`
 -- equates its answer with. Demand 3 says what it means for the runs of the plan.
-use mathlib.Core.Bool.{Bool, not, cond}
+use mathlib.Core.Bool.{Bool, true, false, not, cond}
 use mathlib.Core.List.{List, [], _∷_}
 use Prim.Native.Nat.{ℕ, _+_, _%_}
 use lib.Dec.{ltb}
@@ -52,11 +52,23 @@ recordSize = 126
 abbrev pub verdictOf : List ℕ → ℕ → ℕ → Judgement
 verdictOf s work records = cond (ltb work workSize) (Refused 10) (cond (ltb records recordSize) (Refused 12) (verdictOn s (readOf s)))
 
--- Document 01's number for each refusal; 0 stands for none.
+-- Document 01's number and values for each answer: the number of a refusal, 0 where there is none;
 abbrev pub numberOf : Judgement → ℕ
 numberOf Consistent = 0
 numberOf (Violated t) = 0
 numberOf (Refused n) = n
+
+-- whether it is "consistent";
+abbrev pub saysConsistent : Judgement → Bool
+saysConsistent Consistent = true
+saysConsistent (Violated t) = false
+saysConsistent (Refused n) = false
+
+-- and "the set number given", where one is.
+abbrev pub setGiven : Judgement → ℕ
+setGiven Consistent = 0
+setGiven (Violated t) = t
+setGiven (Refused n) = 0
 
 -- One number for each answer, for callers that have no enum: 0 consistent, 65,536 and the set, twice 65,536 and the refusal's number. A set
 -- is below 1,024; the remainder makes the definition total.

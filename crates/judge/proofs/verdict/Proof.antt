@@ -3,19 +3,19 @@ use native.Mathlib.Omega.{arith}
 use mathlib.Core.Path.{refl, sym, _∙_}
 use lib.ListN.{length}
 use borrow.Author.Needs.{needs}
-use Rattle.judge.proofs.Demand3.{demand3}
+use Rattle.judge.proofs.Demand3.{short-work, short-record, refused-file}
 use Rattle.judge.proofs.verdict.Statement.{statement}
 use Rattle.judge.proofs.verdict.Tie as tie
 
 returns : tie.Need-returns
 returns c =
     let a = c .before .before .before .before .args in
-    record { answer = sym (demand3 .no-work (a .file .now) (length (a .work .now)) (length (a .«record» .now)) (omega arith)); work-after = refl; record-after = refl }
+    record { answer = sym (short-work (a .file .now) (length (a .work .now)) (length (a .«record» .now)) (omega arith)); work-after = refl; record-after = refl }
 
 returns-2 : tie.Need-returns-2
 returns-2 c =
     let a = c .before .before .before .before .before .args in
-    record { answer = sym (demand3 .no-record (a .file .now) (length (a .work .now)) (length (a .«record» .now)) (omega arith) (omega arith)); work-after = refl; record-after = refl }
+    record { answer = sym (short-record (a .file .now) (length (a .work .now)) (length (a .«record» .now)) (omega arith) (omega arith)); work-after = refl; record-after = refl }
 
 read-requires : tie.Need-read-requires
 read-requires c κs = search needs
@@ -34,7 +34,7 @@ returns-3 : tie.Need-returns-3
 returns-3 c =
     let a = c .before .before .before .before .before .before .before .before .before .args in
     record {
-      answer = sym (demand3 .no-plan (a .file .now) (length (a .work .now)) (length (a .«record» .now)) (omega arith) (omega arith) _ (sym (c .before .before .before .read .ensures) ∙ c .before .n .given .1));
+      answer = sym (refused-file (a .file .now) (length (a .work .now)) (length (a .«record» .now)) (omega arith) (omega arith) _ (sym (c .before .before .before .read .ensures) ∙ c .before .n .given .1));
       work-after = refl;
       record-after = refl;
     }
