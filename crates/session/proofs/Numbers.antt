@@ -7,7 +7,7 @@ use native.Mathlib.Omega.{arith}
 use lib.Dec.{ltb, eqb}
 use borrow.Author.Tests.{eqb-false, ltb-false, ne-eqb, le-ltb}
 use Rattle.session.specs.Line.{digitAfter}
-use Rattle.session.specs.Entries.{Decimal, digit, more}
+use Rattle.text.specs.Decimal.{Decimal, digit, more}
 use Rattle.session.specs.declared.line.Number.{Number}
 use Rattle.session.specs.declared.line.Number.the-variants.{Unwritten, Is, Wrong}
 

@@ -2,16 +2,11 @@
 -- Read byte by byte, by Line.antt's definitions, it comes to this.
 use mathlib.Core.List.{List, [], _∷_, _++_}
 use mathlib.Core.Path.{_≡_}
-use Prim.Native.Nat.{ℕ, _+_, _*_, _≤_, _<_}
+use Prim.Native.Nat.{ℕ, _≤_}
+use Rattle.text.specs.Decimal.{Decimal}
 use Rattle.state.specs.declared.Entry.{Entry}
 use Rattle.session.specs.Line.{freshLine, lineOf, entryIn}
 use Rattle.session.specs.declared.line.Found.the-variants as found
-
--- A number in decimal: a digit d is the byte 48 + d, and there is no zero before another digit.
-pub data Decimal : ℕ → List ℕ → Type 0 where
-  digit : {n : ℕ} {text : List ℕ} → n < 10 → text ≡ (48 + n) ∷ [] → Decimal n text
-  more : {n : ℕ} {text : List ℕ} (m d : ℕ) (before : List ℕ) → 0 < m → d < 10 → Decimal m before
-      → n ≡ 10 * m + d → text ≡ before ++ ((48 + d) ∷ []) → Decimal n text
 
 -- The text of an entry: two numbers that fit a byte, with one blank (32) between them.
 pub record EntryText (e : Entry) (line : List ℕ) : Type 0 where

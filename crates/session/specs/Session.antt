@@ -3,7 +3,7 @@
 use mathlib.Core.Bool.{Bool, false, cond}
 use mathlib.Core.List.{List, [], _∷_}
 use mathlib.Core.Path.{_≡_}
-use Prim.Native.Nat.{ℕ, _/_, _%_, _^_}
+use Prim.Native.Nat.{ℕ}
 use lib.Dec.{eqb}
 use Rattle.job.specs.Job.{takeOf}
 use Rattle.state.specs.declared.Entry.{Entry}
@@ -12,6 +12,8 @@ use Rattle.session.specs.Line.{freshLine, lineAfter, lineOf, begun, entr
 use Rattle.session.specs.declared.line.Found.{Found}
 use Rattle.session.specs.declared.line.Found.the-variants as found
 use Rattle.session.specs.declared.Session.{Session}
+use Rattle.answers.specs.Lines.{answerLines}
+use Rattle.session.specs.declared.Say.{Say}
 use Rattle.session.specs.declared.Say.the-variants.{Nothing, NotAnEntry, Answer}
 use Rattle.session.specs.declared.Heard.{Heard}
 
@@ -47,9 +49,11 @@ heardAll s (b ∷ bs) = heardAll (heardByte s b .session) bs
 abbrev pub heardEnd : Session → Heard
 heardEnd s = cond (begun (s .line)) (answered s) (silent s)
 
--- Leaf n may come next where bit n is set in what is told.
-abbrev pub comesNext : ℕ → ℕ → Bool
-comesNext next leaf = eqb (next / 2 ^ leaf % 2) 1
+-- What is written: nothing, the line `not an entry`, or the lines of the runner's answer.
+abbrev pub sayLines : Say → List ℕ
+sayLines Nothing = []
+sayLines NotAnEntry = 110 ∷ 111 ∷ 116 ∷ 32 ∷ 97 ∷ 110 ∷ 32 ∷ 101 ∷ 110 ∷ 116 ∷ 114 ∷ 121 ∷ 10 ∷ []
+sayLines (Answer a) = answerLines a
 
 -- No byte of it is a newline.
 abbrev pub OneLine : List ℕ → Type 0

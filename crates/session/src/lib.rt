@@ -1,11 +1,13 @@
 // A session: a job, and the line that is coming in. Each byte of input is heard, and at the end of a line there is something to say.
 ghost use mathlib.Core.Path.{_≡_};
-ghost use Rattle.session.specs.Session.{nextLine, silent, heardEntry, answered, heardByte, heardEnd, comesNext};
+ghost use Rattle.text.specs.Text.{textOf};
+ghost use Rattle.session.specs.Session.{nextLine, silent, heardEntry, answered, heardByte, heardEnd, sayLines};
 use job::Answer;
 use job::Job;
 use line::Found;
 use line::Line;
 use state::Entry;
+use text::Text;
 
 pub mod line;
 
@@ -99,12 +101,13 @@ pub fn hear_end(session: Session) -> Heard
     keep(session)
 }
 
-// Whether the leaf is among those that may come next, whose bits are set in `next`.
-pub fn comes_next(next: u64, leaf: u64) -> bool
-    ensures { λ r. ⌜ r ≡ comesNext next leaf ⌝ }
+// What is written, as a text.
+pub fn text_of(say: Say) -> Text
+    ensures { λ r. ⌜ r ≡ textOf (sayLines say) ⌝ }
 {
-    if leaf >= 64 {
-        return false;
+    match say {
+        Say::Nothing => text::empty(),
+        Say::NotAnEntry => text::put(text::empty(), b"not an entry\n"),
+        Say::Answer(a) => answers::lines(a),
     }
-    (next >> leaf) % 2 == 1
 }

@@ -5,9 +5,9 @@ use Prim.Native.Nat.{ℕ}
 use lib.Dec.{eqb}
 use lib.ListN.{length, getD, drop}
 use Rattle.plan.specs.Reading.{readOf, numberOf}
-use Rattle.vectors.specs.Tally.{heldAgainst}
-use Rattle.vectors.specs.declared.tally.Outcome.{Outcome}
-use Rattle.vectors.specs.declared.tally.Outcome.the-variants.{Damaged}
+use Rattle.vectors.specs.Outcome.{heldAgainst}
+use Rattle.vectors.specs.declared.outcome.Outcome.{Outcome}
+use Rattle.vectors.specs.declared.outcome.Outcome.the-variants.{Damaged}
 
 -- The body's first byte is the number expected, the others are the file.
 abbrev pub filesOutcome : List ℕ → Outcome

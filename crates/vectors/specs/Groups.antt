@@ -6,7 +6,7 @@ use Rattle.vectors.specs.Runs.{runsOutcome}
 use Rattle.vectors.specs.Verdicts.{verdictsOutcome}
 use Rattle.vectors.specs.declared.Group.{Group}
 use Rattle.vectors.specs.declared.Group.the-variants.{Files, Runs, Verdicts}
-use Rattle.vectors.specs.declared.tally.Outcome.{Outcome}
+use Rattle.vectors.specs.declared.outcome.Outcome.{Outcome}
 
 abbrev pub outcomeIn : Group → List ℕ → Outcome
 outcomeIn Files body = filesOutcome body

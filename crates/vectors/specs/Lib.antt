@@ -1,4 +1,4 @@
-pub mod Tally
+pub mod Outcome
 pub mod Files
 pub mod Runs
 pub mod Verdicts

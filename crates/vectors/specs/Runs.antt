@@ -14,9 +14,9 @@ use Rattle.job.specs.declared.Taken.{Taken}
 use Rattle.fields.specs.Number.{numberAt}
 use Rattle.fields.specs.Answer.{isAnswer}
 use Rattle.fields.specs.Jobs.{sameJob, leftBy}
-use Rattle.vectors.specs.Tally.{heldAgainst}
-use Rattle.vectors.specs.declared.tally.Outcome.{Outcome}
-use Rattle.vectors.specs.declared.tally.Outcome.the-variants.{Damaged}
+use Rattle.vectors.specs.Outcome.{heldAgainst}
+use Rattle.vectors.specs.declared.outcome.Outcome.{Outcome}
+use Rattle.vectors.specs.declared.outcome.Outcome.the-variants.{Damaged}
 use Rattle.vectors.specs.declared.runs.Stepped.{Stepped}
 
 -- The runner, asked for the entry e of the job j, has answered as the bytes at `at` say, and handed back the job that they leave.

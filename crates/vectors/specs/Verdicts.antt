@@ -7,9 +7,9 @@ use lib.Dec.{ltb}
 use lib.ListN.{length, getD, drop}
 use Rattle.judge.specs.Verdict.{workSize, recordSize, verdictOf, codeOf}
 use Rattle.fields.specs.Number.{fourAt}
-use Rattle.vectors.specs.Tally.{heldAgainst}
-use Rattle.vectors.specs.declared.tally.Outcome.{Outcome}
-use Rattle.vectors.specs.declared.tally.Outcome.the-variants.{Damaged}
+use Rattle.vectors.specs.Outcome.{heldAgainst}
+use Rattle.vectors.specs.declared.outcome.Outcome.{Outcome}
+use Rattle.vectors.specs.declared.outcome.Outcome.the-variants.{Damaged}
 
 -- bit 0 of `short` for a work area that lacks a byte, bit 1 for a record area that does
 abbrev pub codeWith : ℕ → List ℕ → ℕ

@@ -3,8 +3,8 @@
 ghost use mathlib.Core.Path.{_≡_};
 ghost use Rattle.plan.specs.Reading.{numberOf};
 ghost use Rattle.vectors.specs.Files.{filesOutcome};
-use crate::tally::Outcome;
-use crate::tally::held;
+use crate::outcome::Outcome;
+use crate::outcome::held;
 use fields::number::wide;
 use plan::Reading;
 

@@ -1,12 +1,11 @@
-// What becomes of a vector, from the bytes of its body, and how the vectors of a group are counted. Nothing here reads or writes a file: the
-// program `compare` does.
+// What becomes of a vector, from the bytes of its body. Nothing here reads or writes a file: the program `compare` does.
 ghost use mathlib.Core.Path.{_≡_};
 ghost use Rattle.vectors.specs.Groups.{outcomeIn};
-use tally::Outcome;
+use outcome::Outcome;
 
 pub mod files;
+pub mod outcome;
 pub mod runs;
-pub mod tally;
 pub mod verdicts;
 
 pub enum Group {

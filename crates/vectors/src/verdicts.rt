@@ -6,8 +6,8 @@ ghost use Prim.Native.Nat.{_-_, _/_, _%_, _≤_};
 ghost use lib.ListN.{length};
 ghost use Rattle.judge.specs.Verdict.{verdictOf, codeOf};
 ghost use Rattle.vectors.specs.Verdicts.{codeWith, verdictsOutcome};
-use crate::tally::Outcome;
-use crate::tally::held;
+use crate::outcome::Outcome;
+use crate::outcome::held;
 use fields::number::four_at;
 
 // The number of the verdict on a file, in areas of which `short` tells which lack a byte.

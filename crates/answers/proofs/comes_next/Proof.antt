@@ -1,11 +1,11 @@
--- `session::comes_next` meets its contract: a number of 64 bits has no bit past them.
+-- `answers::comes_next` meets its contract: a number of 64 bits has no bit past them.
 use mathlib.Core.Path.{_≡_}
 use Prim.Native.Nat.{_/_, _^_}
 use native.Mathlib.Nat.{div-eq-of-lt, lt-of-lt-of-le}
 use lib.Pow.{pow-mono}
 use borrow.Author.Needs.{needs}
-use Rattle.session.proofs.comes_next.Statement.{statement}
-use Rattle.session.proofs.comes_next.Tie as tie
+use Rattle.answers.proofs.comes_next.Statement.{statement}
+use Rattle.answers.proofs.comes_next.Tie as tie
 
 returns : tie.Need-returns
 returns c =

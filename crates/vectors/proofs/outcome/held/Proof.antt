@@ -1,7 +1,7 @@
--- `vectors::tally::held` meets its contract: each return by the test that led there.
+-- `vectors::outcome::held` meets its contract: each return by the test that led there.
 use borrow.Author.Tests.{eq-eqb, ne-eqb}
-use Rattle.vectors.proofs.tally.held.Statement.{statement}
-use Rattle.vectors.proofs.tally.held.Tie as tie
+use Rattle.vectors.proofs.outcome.held.Statement.{statement}
+use Rattle.vectors.proofs.outcome.held.Tie as tie
 
 returns : tie.Need-returns
 returns c = simp (eq-eqb _ _ (c .if1 .taken))

@@ -1,0 +1,44 @@
+-- The lines of a runner's answer: after the start and after each entry taken `next` and the leaves that may come, ascending, each after a
+-- blank, and then `open`, `may end succeeded` or `may end failed`; after a refusal `refused` and its number.
+use mathlib.Core.Bool.{Bool, cond}
+use mathlib.Core.List.{List, [], _∷_, _++_}
+use Prim.Native.Nat.{ℕ, zero, suc, _+_, _/_, _%_, _^_}
+use lib.Dec.{eqb}
+use Rattle.text.specs.Decimal.{decimal}
+use Rattle.job.specs.declared.Status.the-variants.{Succeeded, Failed}
+use Rattle.job.specs.declared.End.{End}
+use Rattle.job.specs.declared.End.the-variants.{Open, MayEnd}
+use Rattle.job.specs.declared.Told.{Told}
+use Rattle.job.specs.declared.Answer.{Answer}
+use Rattle.job.specs.declared.Answer.the-variants as answer
+
+-- Leaf n may come next where bit n is set in what is told.
+abbrev pub comesNext : ℕ → ℕ → Bool
+comesNext next leaf = eqb (next / 2 ^ leaf % 2) 1
+
+-- a blank and the leaf, where it may come
+abbrev pub leafText : ℕ → ℕ → List ℕ
+leafText next leaf = cond (comesNext next leaf) (32 ∷ decimal leaf) []
+
+-- the same for k leaves, from this one on
+unfoldable pub leavesText : ℕ → ℕ → ℕ → List ℕ
+leavesText next leaf zero = []
+leavesText next leaf (suc k) = leafText next leaf ++ leavesText next (leaf + 1) k
+
+-- `open`, `may end succeeded`, `may end failed`
+abbrev pub endLine : End → List ℕ
+endLine Open = 111 ∷ 112 ∷ 101 ∷ 110 ∷ 10 ∷ []
+endLine (MayEnd Succeeded) = 109 ∷ 97 ∷ 121 ∷ 32 ∷ 101 ∷ 110 ∷ 100 ∷ 32 ∷ 115 ∷ 117 ∷ 99 ∷ 99 ∷ 101 ∷ 101 ∷ 100 ∷ 101 ∷ 100 ∷ 10 ∷ []
+endLine (MayEnd Failed) = 109 ∷ 97 ∷ 121 ∷ 32 ∷ 101 ∷ 110 ∷ 100 ∷ 32 ∷ 102 ∷ 97 ∷ 105 ∷ 108 ∷ 101 ∷ 100 ∷ 10 ∷ []
+
+-- `next` and the leaves, of which a mask of 64 bits can tell 64; then the end
+unfoldable pub toldLines : Told → List ℕ
+toldLines t = (110 ∷ 101 ∷ 120 ∷ 116 ∷ []) ++ (leavesText (t .next) 0 64 ++ (10 ∷ endLine (t .end)))
+
+-- `refused` and the number
+unfoldable pub refusedLine : ℕ → List ℕ
+refusedLine n = (114 ∷ 101 ∷ 102 ∷ 117 ∷ 115 ∷ 101 ∷ 100 ∷ 32 ∷ []) ++ (decimal n ++ (10 ∷ []))
+
+abbrev pub answerLines : Answer → List ℕ
+answerLines (answer.Told t) = toldLines t
+answerLines (answer.Refused n) = refusedLine n
