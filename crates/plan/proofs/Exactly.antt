@@ -1,156 +1,175 @@
--- Demand 1, said without a reader: a list of bytes is accepted exactly where it is a plan file. Each check that passed is the statement
--- that it tests, and each statement passes its check.
-use mathlib.Core.Path.{_≡_, refl, sym, ap, _∙_}
-use mathlib.Core.Bool.{Bool, true, false, cond}
-use mathlib.Core.List.{List, [], _++_, append-assoc, append-nil}
+-- Demand 1, said without a reader: a list of bytes is accepted exactly where it is a plan file, and refused by a number exactly where
+-- that is document 01's number for what is wrong with it. One way the reader's answer is followed through the blocks, each in order or
+-- broken; the other way the reader goes past the blocks in order to the place of the fault, or to the end.
+use mathlib.Core.Path.{_≡_, refl, ap, _∙_}
+use mathlib.Core.List.{List, [], _++_, append-nil}
 use mathlib.Core.Logic.{_↔_}
-use Prim.Native.Nat.{ℕ, _+_, _*_, _/_, _%_, _≤_}
+use Prim.Native.Nat.{ℕ, _+_, _≤_}
 use native.Mathlib.Omega.{arith}
-use lib.ListN.{length, drop, length-append}
+use lib.ListN.{length, drop}
 use lib.Seq.{drop-length}
-use lib.Dec.{leb}
-use borrow.Author.Tests.{le-leb, eq-eqb}
+use lib.Dec.{eqb}
+use borrow.Author.Tests.{eqb-true, eqb-false, eq-eqb, ne-eqb}
 use Rattle.blocks.specs.Block.{block}
-use Rattle.bodies.specs.Types.{typesOk}
-use Rattle.bodies.specs.Pairs.{pairsOk}
-use Rattle.nodes.specs.Nodes.{NodeRules}
-use Rattle.nodes.specs.NodeTests.{formsOk, namedOk, nestedOk, nodesFault}
-use Rattle.bodies.specs.Rule.{ruleOk}
-use Rattle.plan.specs.PlanFile.{Bytes, Items, PlanFile}
-use Rattle.plan.specs.Reading.{lengthOk, bytesOf, endOf, readWithin}
+use Rattle.blocks.specs.declared.Part.{Part}
+use Rattle.plan.specs.PlanFile.{Bytes, TypesBody, PairsBody, NodesBody, Bodies, PlanFile}
+use Rattle.plan.specs.Refusals.{Broken}
+use Rattle.plan.specs.Demand1.{Holds}
+use Rattle.plan.specs.Reading.{bytesOf, endOf, withRule, withNodes, withPairs, withTypes, readWithin}
 use Rattle.plan.specs.declared.Layout.{Layout}
-use Rattle.plan.specs.declared.Reading.the-variants.{Accepted}
-use Rattle.bodies.proofs.TypesPairs.{types-say, pairs-say}
-use Rattle.nodes.proofs.Forms.{forms-say, descending}
-use Rattle.nodes.proofs.Named.{named-say}
-use Rattle.nodes.proofs.Under.{nested-say}
-use Rattle.bodies.proofs.Postfix.{rule-say}
-use Rattle.plan.proofs.Lengths.{sized-types, sized-pairs, sized-nodes, sized-rule}
-use Rattle.plan.proofs.Accepted.{Bodies, accepted-bodies, bodies-accepted}
-use Rattle.plan.proofs.Blocks.{body-length, block-here, block-lies}
+use Rattle.plan.specs.declared.Reading.{Reading}
+use Rattle.plan.specs.declared.Reading.the-variants.{Accepted, Refused}
+use Rattle.plan.proofs.Lengths.{at-most}
+use Rattle.plan.proofs.Checks.{choose, types-checks, pairs-checks, nodes-checks, rule-checks}
+use Rattle.plan.proofs.Accepted.{accepted-laid}
+use Rattle.plan.proofs.Blocks.{body-length, place, after-written, block-long}
+use Rattle.plan.proofs.Steps.{in-order, past, stopped, by-block}
 
--- a number that stands for a fault stands for none only where the test holds
-pub none : (t : Bool) (n : ℕ) → cond t 0 (n + 1) ≡ 0 → t ≡ true
-none true n h = refl
-none false n h = absurd (omega arith)
+-- where the bodies lie in a file that is written as these blocks
+abbrev typesPart : List ℕ → Part
+typesPart T = place 0 T
 
--- none of the three checks of the nodes fails
-three : (x y z : Bool) → _≡_ {A = ℕ} (cond x (cond y (cond z 0 8) 7) 6) 0 → (x ≡ true) × (y ≡ true) × (z ≡ true)
-three true true true h = (refl, refl, refl)
-three true true false h = absurd (omega arith)
-three true false z h = absurd (omega arith)
-three false y z h = absurd (omega arith)
+abbrev pairsPart : List ℕ → List ℕ → Part
+pairsPart T P = place (endOf (typesPart T)) P
 
-pub nodes-say : (actions : ℕ) (b : List ℕ) → (nodesFault actions b ≡ 0) ↔ NodeRules actions b
-nodes-say actions b = (to, from)
-  where
-    to : nodesFault actions b ≡ 0 → NodeRules actions b
-    to h =
-        let (x, y, z) = three (formsOk actions b) (namedOk b) (nestedOk b) h in
-        record { keep = forms-say actions b .0 x; once = named-say b .0 y; flat = nested-say b (descending actions b x) .0 z }
+abbrev nodesPart : List ℕ → List ℕ → List ℕ → Part
+nodesPart T P N = place (endOf (pairsPart T P)) N
 
-    from : NodeRules actions b → nodesFault actions b ≡ 0
-    from h =
-        let x = forms-say actions b .1 (h .keep) in
-        rw (x, named-say b .1 (h .once), nested-say b (descending actions b x) .1 (h .flat))
-
--- a body of so many items has a permitted length
-permit-bytes : (kind most : ℕ) (b : List ℕ) → Items 1 1 most b → cond (leb 1 (length b)) (leb (length b) most) false ≡ true
-permit-bytes kind most b i = simp (le-leb 1 (length b) (omega (arith, i .whole, i .enough)), le-leb (length b) most (omega (arith, i .whole, i .few)))
-
-permit-pairs : (most : ℕ) (b : List ℕ) → Items 2 0 most b → lengthOk 2 most (length b) ≡ true
-permit-pairs most b i = simp (eq-eqb (length b % 2) 0 (omega (arith, i .whole)), le-leb (length b) (2 * most) (omega (arith, i .whole, i .few)))
-
-permit-nodes : (most : ℕ) (b : List ℕ) → Items 3 1 most b → lengthOk 3 most (length b) ≡ true
-permit-nodes most b i =
-    simp (eq-eqb (length b % 3) 0 (omega (arith, i .whole)), le-leb 1 (length b) (omega (arith, i .whole, i .enough)), le-leb (length b) (3 * most) (omega (arith, i .whole, i .few)))
+abbrev rulePart : List ℕ → List ℕ → List ℕ → List ℕ → Part
+rulePart T P N R = place (endOf (nodesPart T P N)) R
 
 module _ (actionLimit pairLimit : ℕ) (limit : actionLimit ≤ 128) (s : List ℕ) where
-  -- from the reader's answer to the statement
-  module _ (bytes : Bytes s) (l : Layout) (b : Bodies actionLimit pairLimit s l) where
-    abbrev T : List ℕ
-    T = bytesOf s (l .types)
+  abbrev answer : Reading
+  answer = readWithin actionLimit pairLimit s
 
-    abbrev P : List ℕ
-    P = bytesOf s (l .pairs)
+  few : (T : List ℕ) → TypesBody actionLimit T → length T ≤ 128
+  few T t = omega (arith, at-most (t .size))
 
-    abbrev N : List ℕ
-    N = bytesOf s (l .nodes)
+  -- the bodies of an accepted file are in order
+  pub accepted-holds : (l : Layout) → answer ≡ Accepted l → Holds actionLimit pairLimit s l
+  accepted-holds l h =
+      let b = accepted-laid actionLimit pairLimit s l h in
+      let t = in-order (types-checks actionLimit) s 0 (l .types) (b .types) in
+      let actions : length (bytesOf s (l .types)) ≡ l .types .len = body-length s (l .types) (b .types .inside) in
+      let limited : l .types .len ≤ 128 = omega (arith, few (bytesOf s (l .types)) t) in
+      record {
+        types-hold = t;
+        pairs-hold = rw actions (in-order (pairs-checks pairLimit (l .types .len)) s (endOf (l .types)) (l .pairs) (b .pairs));
+        nodes-hold = rw actions (in-order (nodes-checks (l .types .len)) s (endOf (l .pairs)) (l .nodes) (b .nodes));
+        rule-holds = rw actions (in-order (rule-checks (l .types .len) limited) s (endOf (l .nodes)) (l .rule) (b .rule));
+      }
 
-    abbrev R : List ℕ
-    R = bytesOf s (l .rule)
+  -- past the blocks in order: what stands after them, and what the reader does next
+  module _ (T rest : List ℕ) (e : s ≡ block 1 T ++ rest) (t : TypesBody actionLimit T) where
+    after-types : drop (endOf (typesPart T)) s ≡ rest
+    after-types = after-written s 0 1 T rest e
 
-    actions : l .types .len ≡ length T
-    actions = sym (body-length s bytes 0 1 actionLimit 0 (l .types) (b .types))
+    past-types : answer ≡ withTypes pairLimit s (typesPart T)
+    past-types = past (types-checks actionLimit) s 0 T rest e t (withTypes pairLimit s)
 
-    in-a-row : s ≡ block 1 T ++ (block 2 P ++ (block 3 N ++ block 4 R))
-    in-a-row =
-        let nothing : drop (endOf (l .rule)) s ≡ [] = rw (b .end) (drop-length s) in
-        block-here s bytes 0 1 actionLimit 0 (l .types) (b .types)
-        ∙ rw (block-here s bytes (endOf (l .types)) 2 pairLimit (l .types .len) (l .pairs) (b .pairs), block-here s bytes (endOf (l .pairs)) 3 63 (l .types .len) (l .nodes) (b .nodes), block-here s bytes (endOf (l .nodes)) 4 127 (l .types .len) (l .rule) (b .rule), nothing, append-nil R)
+  module _ (T P rest : List ℕ) (e : s ≡ block 1 T ++ (block 2 P ++ rest)) (t : TypesBody actionLimit T) (p : PairsBody pairLimit (length T) P) where
+    after-pairs : drop (endOf (pairsPart T P)) s ≡ rest
+    after-pairs = after-written s (endOf (typesPart T)) 2 P rest (after-types T (block 2 P ++ rest) e t)
 
-    pub plan-file : PlanFile actionLimit pairLimit s
-    plan-file =
-        let pairs-long = body-length s bytes (endOf (l .types)) 2 pairLimit (l .types .len) (l .pairs) (b .pairs) in
-        let nodes-long = body-length s bytes (endOf (l .pairs)) 3 63 (l .types .len) (l .nodes) (b .nodes) in
-        let rule-long = body-length s bytes (endOf (l .nodes)) 4 127 (l .types .len) (l .rule) (b .rule) in
-        let t = sized-types actionLimit (l .types .len) (b .types .permitted) in
-        let p = sized-pairs pairLimit (l .pairs .len) (b .pairs .permitted) in
-        let n = sized-nodes 63 (l .nodes .len) (b .nodes .permitted) in
-        let r = sized-rule 127 (l .rule .len) (b .rule .permitted) in
-        record {
-          types = T;
-          pairs = P;
-          nodes = N;
-          rule = R;
-          blocks = in-a-row;
-          types-size = record { number = l .types .len; whole = omega (arith, actions); enough = t .low; few = omega (arith, t .high) };
-          types-hold = types-say T .0 (none (typesOk T) 3 (b .types .faultless));
-          pairs-size = record { number = l .pairs .len / 2; whole = omega (arith, pairs-long, p .whole); enough = omega arith; few = omega (arith, p .high) };
-          pairs-hold = pairs-say (length T) P .0 (none (pairsOk (length T) P) 4 (rw (← actions) (b .pairs .faultless)));
-          nodes-size = record { number = l .nodes .len / 3; whole = omega (arith, nodes-long, n .whole); enough = omega (arith, n .low, n .whole); few = omega (arith, n .high) };
-          nodes-hold = nodes-say (length T) N .0 (rw (← actions) (b .nodes .faultless));
-          rule-size = record { number = l .rule .len; whole = omega (arith, rule-long); enough = r .low; few = omega (arith, r .high) };
-          rule-holds = rule-say (length T) (omega (arith, actions, t .high)) R .0 (none (ruleOk (length T) R) 8 (rw (← actions) (b .rule .faultless)));
-        }
+    past-pairs : answer ≡ withPairs s (typesPart T) (pairsPart T P)
+    past-pairs =
+        past-types T (block 2 P ++ rest) e t
+        ∙ past (pairs-checks pairLimit (length T)) s (endOf (typesPart T)) P rest (after-types T (block 2 P ++ rest) e t) p (withPairs s (typesPart T))
 
-  -- from the statement to the reader's answer
-  module _ (f : PlanFile actionLimit pairLimit s) where
-    abbrev layout : Layout
-    layout =
-        let t = length (f .types) in
-        let p = length (f .pairs) in
-        let n = length (f .nodes) in
-        record {
-          types = record { at = 4; len = t };
-          pairs = record { at = 4 + t + 4; len = p };
-          nodes = record { at = 4 + t + 4 + p + 4; len = n };
-          rule = record { at = 4 + t + 4 + p + 4 + n + 4; len = length (f .rule) };
-        }
+  module _ (T P N rest : List ℕ) (e : s ≡ block 1 T ++ (block 2 P ++ (block 3 N ++ rest))) (t : TypesBody actionLimit T) (p : PairsBody pairLimit (length T) P) (n : NodesBody (length T) N) where
+    after-nodes : drop (endOf (nodesPart T P N)) s ≡ rest
+    after-nodes = after-written s (endOf (pairsPart T P)) 3 N rest (after-pairs T P (block 3 N ++ rest) e t p)
 
-    pub file-bodies : Bodies actionLimit pairLimit s layout
-    file-bodies =
-        let T = f .types in
-        let P = f .pairs in
-        let N = f .nodes in
-        let R = f .rule in
-        let n = length T in
-        let e = f .blocks in
-        let few : n ≤ 128 = omega (arith, f .types-size .whole, f .types-size .few) in
-        let upto3 : s ≡ (block 1 T ++ block 2 P) ++ (block 3 N ++ block 4 R) = e ∙ sym (append-assoc (block 1 T) (block 2 P) (block 3 N ++ block 4 R)) in
-        let upto4 : s ≡ ((block 1 T ++ block 2 P) ++ block 3 N) ++ (block 4 R ++ []) =
-        upto3 ∙ sym (append-assoc (block 1 T ++ block 2 P) (block 3 N) (block 4 R)) ∙ ap (λ (x : List ℕ). ((block 1 T ++ block 2 P) ++ block 3 N) ++ x) (sym (append-nil (block 4 R))) in
-        record {
-          types = block-lies [] T (block 2 P ++ (block 3 N ++ block 4 R)) s 0 1 actionLimit 0 e refl (permit-bytes 1 actionLimit T (f .types-size)) (rw (types-say T .1 (f .types-hold)));
-          pairs = block-lies (block 1 T) P (block 3 N ++ block 4 R) s (4 + n) 2 pairLimit n e (omega arith) (permit-pairs pairLimit P (f .pairs-size)) (rw (pairs-say n P .1 (f .pairs-hold)));
-          nodes = block-lies (block 1 T ++ block 2 P) N (block 4 R) s (4 + n + 4 + length P) 3 63 n upto3 (simp length-append (omega arith)) (permit-nodes 63 N (f .nodes-size)) (nodes-say n N .1 (f .nodes-hold));
-          rule = block-lies ((block 1 T ++ block 2 P) ++ block 3 N) R [] s (4 + n + 4 + length P + 4 + length N) 4 127 n upto4 (simp length-append (omega arith)) (permit-bytes 4 127 R (f .rule-size)) (rw (rule-say n few R .1 (f .rule-holds)));
-          end = rw upto4 (simp length-append (omega arith));
-        }
+    past-nodes : answer ≡ withNodes s (typesPart T) (pairsPart T P) (nodesPart T P N)
+    past-nodes =
+        past-pairs T P (block 3 N ++ rest) e t p
+        ∙ past (nodes-checks (length T)) s (endOf (pairsPart T P)) N rest (after-pairs T P (block 3 N ++ rest) e t p) n (withNodes s (typesPart T) (pairsPart T P))
 
-  -- THE LAW: accepted, exactly where it is a plan file
-  pub accepted-exactly : Bytes s → ((l : Layout) × (readWithin actionLimit pairLimit s ≡ Accepted l)) ↔ PlanFile actionLimit pairLimit s
-  accepted-exactly bytes = (
-    λ (l, h). plan-file bytes l (accepted-bodies actionLimit pairLimit s l h),
-    λ f. (layout f, bodies-accepted actionLimit pairLimit s (layout f) (file-bodies f)),
-  )
+  module _ (T P N R rest : List ℕ) (e : s ≡ block 1 T ++ (block 2 P ++ (block 3 N ++ (block 4 R ++ rest)))) (b : Bodies actionLimit pairLimit T P N R) where
+    to-rule : drop (endOf (nodesPart T P N)) s ≡ block 4 R ++ rest
+    to-rule = after-nodes T P N (block 4 R ++ rest) e (b .types-hold) (b .pairs-hold) (b .nodes-hold)
+
+    file-long : length s ≡ endOf (rulePart T P N R) + length rest
+    file-long = block-long s (endOf (nodesPart T P N)) 4 R rest to-rule
+
+    past-rule : answer ≡ withRule s (typesPart T) (pairsPart T P) (nodesPart T P N) (rulePart T P N R)
+    past-rule =
+        past-nodes T P N (block 4 R ++ rest) e (b .types-hold) (b .pairs-hold) (b .nodes-hold)
+        ∙ past (rule-checks (length T) (few T (b .types-hold))) s (endOf (nodesPart T P N)) R rest to-rule (b .rule-holds) (withRule s (typesPart T) (pairsPart T P) (nodesPart T P N))
+
+  abbrev layout : PlanFile actionLimit pairLimit s → Layout
+  layout f =
+      let T = f .types in
+      let P = f .pairs in
+      let N = f .nodes in
+      record { types = typesPart T; pairs = pairsPart T P; nodes = nodesPart T P N; rule = rulePart T P N (f .rule) }
+
+  file-accepted : (f : PlanFile actionLimit pairLimit s) → answer ≡ Accepted (layout f)
+  file-accepted f =
+      let T = f .types in
+      let P = f .pairs in
+      let N = f .nodes in
+      let R = f .rule in
+      let e : s ≡ block 1 T ++ (block 2 P ++ (block 3 N ++ (block 4 R ++ []))) = f .blocks ∙ rw (append-nil R) in
+      past-rule T P N R [] e (f .hold) ∙ rw (eq-eqb (endOf (rulePart T P N R)) (length s) (omega (arith, file-long T P N R [] e (f .hold))))
+
+  broken-refused : (n : ℕ) → Broken actionLimit pairLimit s n → answer ≡ Refused n
+  broken-refused n (Broken.in-types f) = stopped (types-checks actionLimit) s 0 s n refl f (withTypes pairLimit s)
+  broken-refused n (Broken.in-pairs T rest e t f) =
+      past-types T rest e t
+      ∙ stopped (pairs-checks pairLimit (length T)) s (endOf (typesPart T)) rest n (after-types T rest e t) f (withPairs s (typesPart T))
+  broken-refused n (Broken.in-nodes T P rest e t p f) =
+      past-pairs T P rest e t p
+      ∙ stopped (nodes-checks (length T)) s (endOf (pairsPart T P)) rest n (after-pairs T P rest e t p) f (withNodes s (typesPart T) (pairsPart T P))
+  broken-refused k (Broken.in-rule T P N rest e t p n f) =
+      past-nodes T P N rest e t p n
+      ∙ stopped (rule-checks (length T) (few T t)) s (endOf (nodesPart T P N)) rest k (after-nodes T P N rest e t p n) f (withRule s (typesPart T) (pairsPart T P) (nodesPart T P N))
+  broken-refused _ (Broken.bytes-after T P N R rest e b some) =
+      past-rule T P N R rest e b
+      ∙ rw (ne-eqb (endOf (rulePart T P N R)) (length s) (λ z. omega (arith, file-long T P N R rest e b)))
+
+  -- whatever the answer is, it is right
+  abbrev Right : Reading → Type 0
+  Right (Accepted l) = PlanFile actionLimit pairLimit s
+  Right (Refused n) = Broken actionLimit pairLimit s n
+
+  right-at-end : (T P N R : List ℕ) → let after = drop (endOf (rulePart T P N R)) s in s ≡ block 1 T ++ (block 2 P ++ (block 3 N ++ (block 4 R ++ after)))
+      → Bodies actionLimit pairLimit T P N R → Right (withRule s (typesPart T) (pairsPart T P) (nodesPart T P N) (rulePart T P N R))
+  right-at-end T P N R e b =
+      let end = endOf (rulePart T P N R) in
+      choose Right (eqb end (length s))
+      (λ same.
+      let nothing : drop end s ≡ [] = rw (eqb-true end (length s) same) (drop-length s) in
+      record { types = T; pairs = P; nodes = N; rule = R; blocks = e ∙ rw (nothing, append-nil R); hold = b })
+      (λ other. Broken.bytes-after T P N R (drop end s) e b (omega (arith, eqb-false end (length s) other, file-long T P N R (drop end s) e b)))
+
+  module _ (bytes : Bytes s) where
+    right : Right answer
+    right =
+        by-block (types-checks actionLimit) s 0 bytes (withTypes pairLimit s) Right
+        (λ T e1 t.
+        let tp = typesPart T in
+        by-block (pairs-checks pairLimit (length T)) s (endOf tp) bytes (withPairs s tp) Right
+        (λ P e2 p.
+        let pp = pairsPart T P in
+        let upto2 : s ≡ block 1 T ++ (block 2 P ++ drop (endOf pp) s) = e1 ∙ ap (λ (r : List ℕ). block 1 T ++ r) e2 in
+        by-block (nodes-checks (length T)) s (endOf pp) bytes (withNodes s tp pp) Right
+        (λ N e3 n.
+        let np = nodesPart T P N in
+        let upto3 : s ≡ block 1 T ++ (block 2 P ++ (block 3 N ++ drop (endOf np) s)) = upto2 ∙ ap (λ (r : List ℕ). block 1 T ++ (block 2 P ++ r)) e3 in
+        by-block (rule-checks (length T) (few T t)) s (endOf np) bytes (withRule s tp pp np) Right
+        (λ R e4 r.
+        right-at-end T P N R (upto3 ∙ ap (λ (r : List ℕ). block 1 T ++ (block 2 P ++ (block 3 N ++ r))) e4)
+        (record { types-hold = t; pairs-hold = p; nodes-hold = n; rule-holds = r }))
+        (λ k f. Broken.in-rule T P N (drop (endOf np) s) upto3 t p n f))
+        (λ k f. Broken.in-nodes T P (drop (endOf pp) s) upto2 t p f))
+        (λ k f. Broken.in-pairs T (drop (endOf tp) s) e1 t f))
+        (λ k f. Broken.in-types f)
+
+    -- THE LAWS: accepted, exactly where it is a plan file
+    pub accepted-exactly : ((l : Layout) × (answer ≡ Accepted l)) ↔ PlanFile actionLimit pairLimit s
+    accepted-exactly = (λ (l, h). rw h at right, λ f. (layout f, file-accepted f))
+
+    -- refused by a number, exactly where something is wrong that has the number
+    pub refused-exactly : (n : ℕ) → (answer ≡ Refused n) ↔ Broken actionLimit pairLimit s n
+    refused-exactly n = (λ h. rw h at right, broken-refused n)

@@ -1,10 +1,11 @@
 pub mod Lengths
+pub mod Checks
 pub mod Lying
 pub mod Accepted
 pub mod Blocks
+pub mod Steps
 pub mod Exactly
 pub mod Prefix
-pub mod Numbers
 pub mod Tree
 pub mod Demand1
 pub mod Inside

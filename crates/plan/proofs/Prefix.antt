@@ -19,7 +19,7 @@ use Rattle.plan.specs.Reading.{lengthOk, bodyAt, onHeading, blockAt, onB
 use Rattle.plan.specs.declared.Block.{Block}
 use Rattle.plan.specs.declared.Block.the-variants.{Lies, Refused}
 use Rattle.plan.specs.declared.Reading.{Reading}
-use Rattle.plan.proofs.Lengths.{sized-types, sized-pairs, sized-nodes, sized-rule}
+use Rattle.plan.proofs.Lengths.{at-most, sized-bytes, sized-pairs, sized-nodes}
 use Rattle.plan.proofs.Lying.{lying}
 
 module _ (s : List ℕ) (n : ℕ) (long : n ≤ length s) where
@@ -65,32 +65,32 @@ module _ (actionLimit pairLimit : ℕ) (s : List ℕ) (n : ℕ) (long : n ≤ le
   -- from each block on, where what may still come lies in the beginning
   from-rule : (t p o : Part) → endOf o + 131 < n → withNodes (take n s) t p o ≡ withNodes s t p o
   from-rule t p o h =
-      rw (same-block s n long (endOf o) 4 127 (t .len) 127 (λ m e. omega (arith, sized-rule 127 m e .high)) (omega arith))
+      rw (same-block s n long (endOf o) 4 127 (t .len) 127 (λ m e. omega (arith, at-most (sized-bytes 127 m .0 e))) (omega arith))
       (next-block (blockAt s (endOf o) 4 127 (t .len)) (withRule (take n s) t p o) (withRule s t p o) ends)
     where
       ends : (r : Part) → blockAt s (endOf o) 4 127 (t .len) ≡ Lies r → withRule (take n s) t p o r ≡ withRule s t p o r
       ends r e =
           let l = lying s (endOf o) 4 127 (t .len) r e in
-          let k = sized-rule 127 (r .len) (l .permitted) .high in
+          let k = at-most (sized-bytes 127 (r .len) .0 (l .permitted)) in
           rw (beginning-long s n long, ne-eqb (endOf r) n (λ z. omega (arith, l .start, k)), ne-eqb (endOf r) (length s) (λ z. omega (arith, l .start, k)))
 
   from-nodes : (t p : Part) → endOf p + 324 < n → withPairs (take n s) t p ≡ withPairs s t p
   from-nodes t p h =
-      rw (same-block s n long (endOf p) 3 63 (t .len) 189 (λ m e. omega (arith, sized-nodes 63 m e .high)) (omega arith))
+      rw (same-block s n long (endOf p) 3 63 (t .len) 189 (λ m e. omega (arith, at-most (sized-nodes 63 m .0 e))) (omega arith))
       (next-block (blockAt s (endOf p) 3 63 (t .len)) (withNodes (take n s) t p) (withNodes s t p) (λ o e.
       let l = lying s (endOf p) 3 63 (t .len) o e in
-      from-rule t p o (omega (arith, l .start, sized-nodes 63 (o .len) (l .permitted) .high))))
+      from-rule t p o (omega (arith, l .start, at-most (sized-nodes 63 (o .len) .0 (l .permitted))))))
 
   from-pairs : (t : Part) → endOf t + 328 + 2 * pairLimit < n → withTypes pairLimit (take n s) t ≡ withTypes pairLimit s t
   from-pairs t h =
-      rw (same-block s n long (endOf t) 2 pairLimit (t .len) (2 * pairLimit) (λ m e. sized-pairs pairLimit m e .high) (omega arith))
+      rw (same-block s n long (endOf t) 2 pairLimit (t .len) (2 * pairLimit) (λ m e. at-most (sized-pairs pairLimit m .0 e)) (omega arith))
       (next-block (blockAt s (endOf t) 2 pairLimit (t .len)) (withPairs (take n s) t) (withPairs s t) (λ p e.
       let l = lying s (endOf t) 2 pairLimit (t .len) p e in
-      from-nodes t p (omega (arith, l .start, sized-pairs pairLimit (p .len) (l .permitted) .high))))
+      from-nodes t p (omega (arith, l .start, at-most (sized-pairs pairLimit (p .len) .0 (l .permitted))))))
 
   pub beginning-decides : 332 + actionLimit + 2 * pairLimit < n → readWithin actionLimit pairLimit (take n s) ≡ readWithin actionLimit pairLimit s
   beginning-decides h =
-      rw (same-block s n long 0 1 actionLimit 0 actionLimit (λ m e. omega (arith, sized-types actionLimit m e .high)) (omega arith))
+      rw (same-block s n long 0 1 actionLimit 0 actionLimit (λ m e. omega (arith, at-most (sized-bytes actionLimit m .0 e))) (omega arith))
       (next-block (blockAt s 0 1 actionLimit 0) (withTypes pairLimit (take n s)) (withTypes pairLimit s) (λ t e.
       let l = lying s 0 1 actionLimit 0 t e in
-      from-pairs t (omega (arith, l .start, sized-types actionLimit (t .len) (l .permitted) .high))))
+      from-pairs t (omega (arith, l .start, at-most (sized-bytes actionLimit (t .len) .0 (l .permitted))))))

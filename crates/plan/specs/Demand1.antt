@@ -8,7 +8,8 @@ use lib.ListN.{length, take}
 use Rattle.process.specs.Leaves.{AsWritten, HasLeaf, Distinct}
 use Rattle.process.specs.Depth.{Flat}
 use Rattle.nodes.specs.Nodes.{count, form, Under}
-use Rattle.plan.specs.PlanFile.{Bytes, PlanFile}
+use Rattle.plan.specs.PlanFile.{Bytes, Bodies, PlanFile}
+use Rattle.plan.specs.Refusals.{Broken}
 use Rattle.plan.specs.Reading.{bytesOf, endOf, readOf}
 use Rattle.plan.specs.Tree.{processOf}
 use Rattle.plan.specs.declared.Layout.{Layout}
@@ -22,6 +23,10 @@ pub record InARow (s : List ℕ) (l : Layout) : Type 0 where
   pub rule : l .rule .at ≡ endOf (l .nodes) + 4
   pub end : endOf (l .rule) ≡ length s
 
+-- the four bodies of an accepted file have the lengths and the contents that they may have
+abbrev pub Holds : ℕ → ℕ → List ℕ → Layout → Type 0
+Holds actionLimit pairLimit s l = Bodies actionLimit pairLimit (bytesOf s (l .types)) (bytesOf s (l .pairs)) (bytesOf s (l .nodes)) (bytesOf s (l .rule))
+
 -- the process of a node list: every node is in the tree of the last one, its leaves are the nodes of forms 0 to 2, each once, and no
 -- compensation stands in an undo side
 pub record Drawn (types nodes : List ℕ) : Type 0 where
@@ -34,8 +39,10 @@ pub record Drawn (types nodes : List ℕ) : Type 0 where
 pub record Demand1 : Type 0 where
   -- a file is accepted exactly where it is a plan file
   pub accepts : (s : List ℕ) → Bytes s → ((l : Layout) × (readOf s ≡ Accepted l)) ↔ PlanFile 10 9 s
-  -- every other one is refused, by one of the numbers 1 to 9
-  pub refuses : (s : List ℕ) (n : ℕ) → readOf s ≡ Refused n → (1 ≤ n) × (n ≤ 9)
+  -- and refused by a number exactly where that is document 01's number for what is wrong with it
+  pub refuses : (s : List ℕ) → Bytes s → (n : ℕ) → (readOf s ≡ Refused n) ↔ Broken 10 9 s n
+  -- the bodies of an accepted file hold what document 01 permits
+  pub holds : (s : List ℕ) (l : Layout) → readOf s ≡ Accepted l → Holds 10 9 s l
   -- an accepted file has at most 360 bytes, and its bodies lie in a row
   pub most : (s : List ℕ) (l : Layout) → readOf s ≡ Accepted l → length s ≤ 360
   pub row : (s : List ℕ) (l : Layout) → readOf s ≡ Accepted l → InARow s l

@@ -1,4 +1,5 @@
 pub mod Reading
 pub mod PlanFile
+pub mod Refusals
 pub mod Tree
 pub mod Demand1

@@ -14,12 +14,53 @@ use Rattle.bodies.specs.Rule.{Rule}
 abbrev pub Bytes : List ℕ → Type 0
 Bytes s = (i : ℕ) → getD s i 0 < 256
 
--- there are from `least` to `most` items of `unit` bytes each
-pub record Items (unit least most : ℕ) (body : List ℕ) : Type 0 where
+-- n bytes are from `least` to `most` items of `unit` bytes each
+pub record Items (unit least most n : ℕ) : Type 0 where
   pub number : ℕ
-  pub whole : length body ≡ unit * number
+  pub whole : n ≡ unit * number
   pub enough : least ≤ number
   pub few : number ≤ most
+
+-- The lengths that a body may have. "Kind 1, types: one byte for each action, 1 to 10 actions"
+abbrev pub TypesSize : ℕ → ℕ → Type 0
+TypesSize actionLimit n = Items 1 1 actionLimit n
+
+-- "Kind 2, undo pairs: two bytes each, .. 0 to 9 pairs."
+abbrev pub PairsSize : ℕ → ℕ → Type 0
+PairsSize pairLimit n = Items 2 0 pairLimit n
+
+-- "Kind 3, nodes: three bytes each (form, left, right), 1 to 63 nodes"
+abbrev pub NodesSize : ℕ → Type 0
+NodesSize n = Items 3 1 63 n
+
+-- "Kind 4, rule: 1 to 127 bytes in postfix order."
+abbrev pub RuleSize : ℕ → Type 0
+RuleSize n = Items 1 1 127 n
+
+-- a body in order: it has a length that it may have, and holds what it may hold
+pub record Body (Size : ℕ → Type 0) (Contents : List ℕ → Type 0) (body : List ℕ) : Type 0 where
+  pub size : Size (length body)
+  pub holds : Contents body
+
+abbrev pub TypesBody : ℕ → List ℕ → Type 0
+TypesBody actionLimit types = Body (TypesSize actionLimit) Types types
+
+-- these three of a plan of so many actions
+abbrev pub PairsBody : ℕ → ℕ → List ℕ → Type 0
+PairsBody pairLimit actions pairs = Body (PairsSize pairLimit) (Pairs actions) pairs
+
+abbrev pub NodesBody : ℕ → List ℕ → Type 0
+NodesBody actions nodes = Body NodesSize (NodeRules actions) nodes
+
+abbrev pub RuleBody : ℕ → List ℕ → Type 0
+RuleBody actions rule = Body RuleSize (Rule actions) rule
+
+-- the four bodies are in order; there are as many actions as types
+pub record Bodies (actionLimit pairLimit : ℕ) (types pairs nodes rule : List ℕ) : Type 0 where
+  pub types-hold : TypesBody actionLimit types
+  pub pairs-hold : PairsBody pairLimit (length types) pairs
+  pub nodes-hold : NodesBody (length types) nodes
+  pub rule-holds : RuleBody (length types) rule
 
 pub record PlanFile (actionLimit pairLimit : ℕ) (s : List ℕ) : Type 0 where
   pub types : List ℕ
@@ -28,18 +69,7 @@ pub record PlanFile (actionLimit pairLimit : ℕ) (s : List ℕ) : Type 0 where
   pub rule : List ℕ
   -- "A file is exactly four blocks, kinds 1, 2, 3, 4 in that order."
   pub blocks : s ≡ block 1 types ++ (block 2 pairs ++ (block 3 nodes ++ block 4 rule))
-  -- "Kind 1, types: one byte for each action, 1 to 10 actions"
-  pub types-size : Items 1 1 actionLimit types
-  pub types-hold : Types types
-  -- "Kind 2, undo pairs: two bytes each, .. 0 to 9 pairs."
-  pub pairs-size : Items 2 0 pairLimit pairs
-  pub pairs-hold : Pairs (length types) pairs
-  -- "Kind 3, nodes: three bytes each (form, left, right), 1 to 63 nodes"
-  pub nodes-size : Items 3 1 63 nodes
-  pub nodes-hold : NodeRules (length types) nodes
-  -- "Kind 4, rule: 1 to 127 bytes in postfix order."
-  pub rule-size : Items 1 1 127 rule
-  pub rule-holds : Rule (length types) rule
+  pub hold : Bodies actionLimit pairLimit types pairs nodes rule
 
 -- What running a plan rests on: its types and its nodes, as an accepted file has them.
 pub record Runnable (types nodes : List ℕ) : Type 0 where

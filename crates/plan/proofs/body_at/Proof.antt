@@ -9,7 +9,7 @@ use borrow.Author.Needs.{needs}
 use borrow.Author.Tests.{leb-true, eq-eqb, ne-eqb, not-true, not-false}
 use Rattle.blocks.specs.Block.{bodyFits}
 use Rattle.plan.specs.Reading.{lengthOk, fault}
-use Rattle.plan.proofs.Lengths.{sized-nodes}
+use Rattle.plan.proofs.Lengths.{at-most, sized-nodes}
 use Rattle.plan.proofs.body_at.Statement.{statement}
 use Rattle.plan.proofs.body_at.Tie as tie
 
@@ -51,8 +51,8 @@ part-fault-of-end c = omega (arith, inside c)
 fault-of-requires : tie.Need-fault-of-requires
 fault-of-requires c κs e =
     let s = c .before .before .before .before .before .before in
-    let k = sized-nodes (s .args .most) (s .args .n) (rw e at (permitted (c .before .before .before))) in
-    simp length-take (omega (arith, k .high, s .pre e))
+    let k = sized-nodes (s .args .most) (s .args .n) .0 (rw e at (permitted (c .before .before .before))) in
+    simp length-take (omega (arith, at-most k, s .pre e))
 
 -- what the contents' check found
 found : (c : tie.After-fault-of) → let a = c .before .before .before .before .before .before .before .args in c .fault-of .result ≡ fault (a .kind) (a .actions) (take (a .n) (drop (a .at + 4) (a .file .now)))
