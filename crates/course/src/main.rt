@@ -1,19 +1,6 @@
 // Judges the plans of the course, one after the other: the name of each, and then the lines of its verdict.
 use libc::STDOUT_FILENO;
 
-// The name on a line of its own, and the verdict on the file.
-fn tell(name: &[u8], file: &[u8]) {
-    let mut work = [0u8; 65536];
-    let mut run = [0u8; 126];
-    let judgement = judge::verdict(file, &mut work, &mut run);
-    let told = io::write_all(STDOUT_FILENO, name)
-        && io::write_all(STDOUT_FILENO, b"\n")
-        && report::tell(judgement, &run);
-    if !told {
-        os::fail(b"standard output");
-    }
-}
-
 // The plan of this name. The largest plan file has 360 bytes, and a longer one is refused by the same number as its first 361 bytes.
 fn plan(name: &[u8]) {
     let mut file = [0u8; 361];
@@ -23,7 +10,9 @@ fn plan(name: &[u8]) {
         return;
     }
     let n = got.count;
-    tell(name, &file[..n]);
+    if !output::write(STDOUT_FILENO, report::named_lines(name, &file[..n])) {
+        os::fail(b"standard output");
+    }
 }
 
 fn main() {
@@ -37,4 +26,5 @@ fn main() {
     plan(b"p8.plan");
     plan(b"swallowed.plan");
     plan(b"mended.plan");
+    plan(b"broken.plan");
 }

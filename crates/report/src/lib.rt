@@ -1,45 +1,107 @@
-// The lines of a verdict: `consistent`; or `violated` and the set, and then a line for each entry of the run that is shown, leaf and outcome; or
-// `refused` and document 01's number for why.
+// The lines of a verdict as a text: `consistent`; or `violated` and the set, and then a line for each entry of the run that is shown, leaf and
+// outcome; or `refused` and document 01's number for why.
+ghost use mathlib.Core.Path.{_≡_};
+ghost use mathlib.Core.List.{_∷_};
+ghost use Rattle.text.specs.Decimal.{decimal};
+ghost use Rattle.text.specs.Text.{appended, textOf};
+ghost use Rattle.report.specs.Lines.{line, numbered, runLines, verdictLines};
+ghost use Rattle.report.specs.Tells.{Finds, Tells, TellsNamed};
+use judge::Finding;
 use judge::Judgement;
-use libc::STDOUT_FILENO;
+use text::Text;
 
-fn put(text: &[u8]) -> bool {
-    io::write_all(STDOUT_FILENO, text)
+pub mod inspection;
+
+// The text and a newline more.
+fn put_line(t: Text, s: &[u8]) -> Text
+    ensures { λ r. ⌜ r ≡ appended t (line (now (s .entry))) ⌝ }
+{
+    text::push(text::put(t, s), 10)
 }
 
-// The two numbers with a blank between them.
-fn put_entry(leaf: u8, outcome: u8) -> bool {
-    io::print_decimal(STDOUT_FILENO, leaf as u64)
-        && put(b" ")
-        && io::print_decimal(STDOUT_FILENO, outcome as u64)
-        && put(b"\n")
+// A blank, a number and a newline more.
+fn end_line(t: Text, number: u64) -> Text
+    ensures { λ r. ⌜ r ≡ appended t (32 ∷ line (decimal number)) ⌝ }
+{
+    text::push(text::put_decimal(text::push(t, 32), number), 10)
+}
+
+// A word and a number on a line more.
+fn put_numbered(t: Text, word: &[u8], number: u64) -> Text
+    ensures { λ r. ⌜ r ≡ appended t (numbered (now (word .entry)) number) ⌝ }
+{
+    end_line(text::put(t, word), number)
+}
+
+// Leaf and outcome on a line more.
+fn put_entry(t: Text, leaf: u8, outcome: u8) -> Text
+    ensures { λ r. ⌜ r ≡ appended t (numbered (decimal leaf) outcome) ⌝ }
+{
+    end_line(text::put_decimal(t, leaf as u64), outcome as u64)
 }
 
 // The entries of the run, up to the first whose outcome is 0.
-fn put_run(run: &[u8; 126]) -> bool {
+fn put_run(t: Text, run: [u8; 126]) -> Text
+    ensures { λ r. ⌜ r ≡ appended t (runLines run) ⌝ }
+{
+    let mut grown = t;
     let mut i = 0;
     while i < 63 {
-        if run[2 * i + 1] == 0 {
-            return true;
+        let leaf = run[2 * i];
+        let outcome = run[2 * i + 1];
+        if outcome == 0 {
+            return grown;
         }
-        if !put_entry(run[2 * i], run[2 * i + 1]) {
-            return false;
-        }
+        grown = put_entry(grown, leaf, outcome);
         i += 1;
     }
-    true
+    grown
 }
 
-// A word, a blank and a number.
-fn put_numbered(word: &[u8], number: u64) -> bool {
-    put(word) && put(b" ") && io::print_decimal(STDOUT_FILENO, number) && put(b"\n")
-}
-
-// Writes the answer, and tells whether it was taken.
-pub fn tell(judgement: Judgement, run: &[u8; 126]) -> bool {
-    match judgement {
-        Judgement::Consistent => put(b"consistent\n"),
-        Judgement::Violated(set) => put_numbered(b"violated", set as u64) && put_run(run),
-        Judgement::Refused(number) => put_numbered(b"refused", number as u64),
+// The lines of a verdict more.
+fn put_verdict(t: Text, j: Judgement, run: [u8; 126]) -> Text
+    ensures { λ r. ⌜ r ≡ appended t (verdictLines j run) ⌝ }
+{
+    match j {
+        Judgement::Consistent => put_line(t, b"consistent"),
+        Judgement::Violated(set) => put_run(put_numbered(t, b"violated", set as u64), run),
+        Judgement::Refused(number) => put_numbered(t, b"refused", number as u64),
     }
+}
+
+// The lines of a verdict.
+pub fn lines(j: Judgement, run: [u8; 126]) -> Text
+    ensures { λ r. ⌜ r ≡ textOf (verdictLines j run) ⌝ }
+{
+    put_verdict(text::empty(), j, run)
+}
+
+// The verdict on a plan file.
+fn find(file: &[u8]) -> Finding
+    ensures { λ r. ⌜ Finds (now (file .entry)) r ⌝ }
+{
+    let mut work = [0u8; 65536];
+    let mut run = [0u8; 126];
+    let judgement = judge::verdict(file, &mut work, &mut run);
+    Finding { judgement, run }
+}
+
+// The lines of the verdict on a plan file.
+pub fn verdict_lines(file: &[u8]) -> Text
+    ensures { λ r. ⌜ Tells (now (file .entry)) r ⌝ }
+{
+    let found = find(file);
+    let run = found.run;
+    let judgement = found.judgement;
+    lines(judgement, run)
+}
+
+// A name on a line of its own, and the lines of the verdict on a plan file.
+pub fn named_lines(name: &[u8], file: &[u8]) -> Text
+    ensures { λ r. ⌜ TellsNamed (now (name .entry)) (now (file .entry)) r ⌝ }
+{
+    let found = find(file);
+    let run = found.run;
+    let judgement = found.judgement;
+    put_verdict(put_line(text::empty(), name), judgement, run)
 }

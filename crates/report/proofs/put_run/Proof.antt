@@ -1,51 +1,48 @@
--- `report::put_run` is safe and ends: each entry lies in the 126 bytes.
-use Prim.Native.Nat.{_-_, _≤_}
-use borrow.Author.Needs.{needs}
+-- `report::put_run` meets its contract. The invariant: the lines of what is left of the run, put into the text so far, give what all of them give to the first.
+use mathlib.Core.Path.{_≡_, sym, _∙_}
+use Prim.Native.Nat.{_*_, _-_, _≤_}
+use lib.ListN.{length, drop}
 use native.Mathlib.Omega.{arith}
+use borrow.Author.Needs.{needs}
+use Rattle.text.specs.Text.{appended}
+use Rattle.report.specs.Lines.{runLines}
+use Rattle.report.proofs.RunLines.{run-over, run-stops, run-goes}
 use Rattle.report.proofs.put_run.Statement.{statement}
 use Rattle.report.proofs.put_run.Tie as tie
 
 abbrev Inv-loop : tie.InvT-loop
-Inv-loop run i₀ i = i ≤ 63
+Inv-loop run grown₀ i₀ grown i = (i ≤ 63) × (appended grown₀ (runLines run) ≡ appended grown (runLines (drop (2 * i) run)))
 
 abbrev μ-loop : tie.MeasureT-loop
-μ-loop run i₀ i = 63 - i
+μ-loop run grown₀ i₀ grown i = 63 - i
 
 loop-holds : tie.Need-loop-holds Inv-loop μ-loop
-loop-holds c = omega arith
+loop-holds c = search needs
 
-mul-if1 : tie.Need-mul-if1 Inv-loop μ-loop
-mul-if1 c = search needs
+mul-leaf : tie.Need-mul-leaf Inv-loop μ-loop
+mul-leaf c = search needs
 
-add-if1 : tie.Need-add-if1 Inv-loop μ-loop
-add-if1 c = omega arith
+array-read-leaf : tie.Need-array-read-leaf Inv-loop μ-loop
+array-read-leaf c = search needs
 
-element-copy-out-if1 : tie.Need-element-copy-out-if1 Inv-loop μ-loop
-element-copy-out-if1 c = search needs
+mul-outcome : tie.Need-mul-outcome Inv-loop μ-loop
+mul-outcome c = search needs
+
+add-outcome : tie.Need-add-outcome Inv-loop μ-loop
+add-outcome c = omega arith
+
+array-read-outcome : tie.Need-array-read-outcome Inv-loop μ-loop
+array-read-outcome c = search needs
 
 returns : tie.Need-returns Inv-loop μ-loop
-returns c = search needs
-
-mul-put-entry : tie.Need-mul-put-entry Inv-loop μ-loop
-mul-put-entry c = search needs
-
-element-copy-out-put-entry : tie.Need-element-copy-out-put-entry Inv-loop μ-loop
-element-copy-out-put-entry c = search needs
-
-mul-put-entry-2 : tie.Need-mul-put-entry-2 Inv-loop μ-loop
-mul-put-entry-2 c = search needs
-
-add-put-entry : tie.Need-add-put-entry Inv-loop μ-loop
-add-put-entry c = omega arith
-
-element-copy-out-put-entry-2 : tie.Need-element-copy-out-put-entry-2 Inv-loop μ-loop
-element-copy-out-put-entry-2 c = search needs
+returns c =
+    let at = c .before .before .loop in
+    let run = c .before .before .before .args .t2 in
+    let long : length run ≡ 126 = omega (arith, c .before .before .before .good .1 .0) in
+    sym (at .inv .1 ∙ run-stops (at .grown) run (at .i) (omega arith) (c .if1 .taken))
 
 put-entry-requires : tie.Need-put-entry-requires Inv-loop μ-loop
 put-entry-requires c κs = search needs
-
-returns-2 : tie.Need-returns-2 Inv-loop μ-loop
-returns-2 c = search needs
 
 add-i : tie.Need-add-i Inv-loop μ-loop
 add-i c = omega arith
@@ -54,10 +51,19 @@ loop-less : tie.Need-loop-less Inv-loop μ-loop
 loop-less c = omega arith
 
 loop-again : tie.Need-loop-again Inv-loop μ-loop
-loop-again c = omega arith
+loop-again c =
+    let at = c .before .before .before .loop in
+    let run = c .before .before .before .before .args .t2 in
+    let long : length run ≡ 126 = omega (arith, c .before .before .before .before .good .1 .0) in
+    let goes = run-goes (at .grown) run (at .i) (omega arith) (c .before .if1 .left) in
+    (omega arith, at .inv .1 ∙ (goes ∙ rw (c .put-entry .ensures)))
 
-returns-3 : tie.Need-returns-3 Inv-loop μ-loop
-returns-3 c = search needs
+returns-2 : tie.Need-returns-2 Inv-loop μ-loop
+returns-2 c =
+    let at = c .before .loop in
+    let run = c .before .before .args .t2 in
+    let long : length run ≡ 126 = omega (arith, c .before .before .good .1 .0) in
+    sym (at .inv .1 ∙ run-over (at .grown) run (at .i) (omega arith))
 
 pub put-run-spec : {M : Type 1} → statement M
 put-run-spec =
@@ -66,18 +72,14 @@ put-run-spec =
     Inv-loop
     μ-loop
     loop-holds
-    mul-if1
-    add-if1
-    element-copy-out-if1
+    mul-leaf
+    array-read-leaf
+    mul-outcome
+    add-outcome
+    array-read-outcome
     returns
-    mul-put-entry
-    element-copy-out-put-entry
-    mul-put-entry-2
-    add-put-entry
-    element-copy-out-put-entry-2
     put-entry-requires
-    returns-2
     add-i
     loop-less
     loop-again
-    returns-3)
+    returns-2)

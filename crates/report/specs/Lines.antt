@@ -1,0 +1,58 @@
+-- The lines that the programs write, as bytes, in document 01's words.
+use mathlib.Core.List.{List, [], _∷_, _++_}
+use Prim.Native.Nat.{ℕ}
+use Rattle.text.specs.Decimal.{decimal}
+use Rattle.plan.specs.declared.Reading.{Reading}
+use Rattle.plan.specs.declared.Reading.the-variants as reading
+use Rattle.state.specs.declared.Entry.{Entry}
+use Rattle.judge.specs.Shown.{shownEntries}
+use Rattle.judge.specs.declared.Judgement.{Judgement}
+use Rattle.judge.specs.declared.Judgement.the-variants.{Consistent, Violated, Refused}
+
+-- The text "consistent".
+abbrev pub consistent : List ℕ
+consistent = 99 ∷ 111 ∷ 110 ∷ 115 ∷ 105 ∷ 115 ∷ 116 ∷ 101 ∷ 110 ∷ 116 ∷ []
+
+-- The text "violated".
+abbrev pub violated : List ℕ
+violated = 118 ∷ 105 ∷ 111 ∷ 108 ∷ 97 ∷ 116 ∷ 101 ∷ 100 ∷ []
+
+-- The text "refused".
+abbrev pub refused : List ℕ
+refused = 114 ∷ 101 ∷ 102 ∷ 117 ∷ 115 ∷ 101 ∷ 100 ∷ []
+
+-- The text "accepted".
+abbrev pub accepted : List ℕ
+accepted = 97 ∷ 99 ∷ 99 ∷ 101 ∷ 112 ∷ 116 ∷ 101 ∷ 100 ∷ []
+
+-- A text and a newline (10).
+abbrev pub line : List ℕ → List ℕ
+line text = text ++ (10 ∷ [])
+
+-- A word, a blank (32) and a number, on a line.
+abbrev pub numbered : List ℕ → ℕ → List ℕ
+numbered word n = word ++ (32 ∷ line (decimal n))
+
+-- "leaf and outcome"
+abbrev pub entryLine : Entry → List ℕ
+entryLine e = numbered (decimal (e .leaf)) (e .outcome)
+
+-- A line for each entry of the run that is shown.
+unfoldable pub entryLines : List Entry → List ℕ
+entryLines [] = []
+entryLines (e ∷ es) = entryLine e ++ entryLines es
+
+abbrev pub runLines : List ℕ → List ℕ
+runLines bytes = entryLines (shownEntries bytes)
+
+-- The verdict program "writes four lines, `violated 2`, `0 2`, `1 1`, `3 1`: the set, then leaf and outcome. Otherwise it writes the one line
+-- `consistent`, or `refused` and the number."
+abbrev pub verdictLines : Judgement → List ℕ → List ℕ
+verdictLines Consistent bytes = line consistent
+verdictLines (Violated set) bytes = numbered violated set ++ runLines bytes
+verdictLines (Refused n) bytes = numbered refused n
+
+-- What is written of a file that is read and not judged.
+abbrev pub inspectLine : Reading → List ℕ
+inspectLine (reading.Accepted l) = line accepted
+inspectLine (reading.Refused n) = numbered refused n

@@ -1,0 +1,28 @@
+-- The text that a verdict comes to, for every file. Only which run is shown is left free, and of that `Judged` says what holds.
+use mathlib.Core.Path.{_≡_}
+use mathlib.Core.List.{List, [], _∷_, _++_}
+use Prim.Native.Nat.{ℕ}
+use lib.ListN.{replicate}
+use Rattle.text.specs.Text.{empty, appended, textOf}
+use Rattle.text.specs.declared.Text.{Text}
+use Rattle.judge.specs.Verdict.{workSize, recordSize}
+use Rattle.judge.specs.Judged.{Judged}
+use Rattle.judge.specs.declared.Finding.{Finding}
+use Rattle.report.specs.Lines.{line, verdictLines}
+
+-- The verdict on the file, in areas of zeros.
+pub record Finds (s : List ℕ) (f : Finding) : Type 0 where
+  pub work : List ℕ
+  pub judged : Judged s (replicate workSize 0) work (replicate recordSize 0) (f .run) (f .judgement)
+
+-- The text is that of the verdict's lines.
+pub record Tells (s : List ℕ) (t : Text) : Type 0 where
+  pub finding : Finding
+  pub finds : Finds s finding
+  pub is : t ≡ textOf (verdictLines (finding .judgement) (finding .run))
+
+-- The same after a name on a line of its own, as far as there is room.
+pub record TellsNamed (name s : List ℕ) (t : Text) : Type 0 where
+  pub finding : Finding
+  pub finds : Finds s finding
+  pub is : t ≡ appended empty (line name ++ verdictLines (finding .judgement) (finding .run))
