@@ -1,77 +1,31 @@
 // Compares the product with vectors that an independent model made, a data file for each group, and writes a line of counts for each.
 // The first vector of a group that differs has a line of its own, above that of the counts.
 //
-// A data file is the number of its vectors, then the vectors. A vector is the length of its name, the length of its body, the name, and
-// the body. These numbers have four bytes each, the lowest first. What a body holds is its group's to say, in the crate `vectors`.
-// docs/VECTORS.md says what the vectors are and how they are made.
-mod data;
-mod lines;
-
-ghost use Rattle.compare.specs.Count.{CountsVectors};
+// What a data file comes to, and its lines, are the crate `comparison`'s; docs/VECTORS.md says what the vectors are and how they are made.
+ghost use mathlib.Core.Path.{_≡_};
+ghost use lib.ListN.{length};
+use libc::STDOUT_FILENO;
 use vectors::Group;
-use vectors::tally::Outcome;
-use vectors::tally::Place;
-use vectors::tally::Tally;
 
-// The longest name and the longest body that a vector may have.
-const NAME_ROOM: usize = 64;
-
-const BODY_ROOM: usize = 66000;
-
-// Reads and compares the next vector, and writes the line of one that differs where it is the first.
-fn vector(fd: i32, group: Group, title: &[u8], place: Place) -> Outcome {
-    let mut name = [0u8; NAME_ROOM];
-    let mut body = [0u8; BODY_ROOM];
-    let name_length = data::number(fd);
-    let body_length = data::number(fd);
-    let named = data::take(fd, &mut name, name_length);
-    let filled = data::take(fd, &mut body, body_length);
-    if !named.whole || !filled.whole {
-        return Outcome::Damaged;
-    }
-    let m = named.count;
-    let n = filled.count;
-    let outcome = vectors::compare(group, &body[..n]);
-    if let Outcome::Differs { expected, found } = outcome {
-        if place.is_first {
-            lines::difference(title, place.number, &name[..m], expected, found);
-        }
-    }
-    outcome
-}
-
-// Compares `count` vectors, or those before the first that is not whole.
-fn vectors(fd: i32, group: Group, title: &[u8], count: u64) -> Tally
-    ensures { λ r. ⌜ CountsVectors count r ⌝ }
+// Room for a whole data file. One that is longer is cut, and so damaged.
+fn room() -> [u8; 655360]
+    ensures { λ r. ⌜ 655360 ≡ length r ⌝ }
 {
-    let mut tally = Tally {
-        vectors: 0,
-        agree: 0,
-        whole: true,
-    };
-    let mut left = count;
-    while left > 0 && tally.whole {
-        left -= 1;
-        let place = vectors::tally::next(tally);
-        let outcome = vector(fd, group, title, place);
-        tally = vectors::tally::counted(tally, outcome);
-    }
-    tally
+    [0; 655360]
 }
 
-// The group's vectors, from the data file of its title.
-fn run(group: Group, title: &[u8]) {
-    let fd = os::open_read(title);
-    if fd < 0 {
-        os::fail(title);
+// The group's vectors, from the data file of this name.
+fn run(group: Group, name: &[u8]) {
+    let mut data = room();
+    let got = input::fill_from(name, &mut data);
+    if got.failed {
+        os::fail(name);
         return;
     }
-    let tally = vectors(fd, group, title, data::number(fd));
-    lines::counts(title, tally);
-    if !tally.whole || !data::ended(fd) {
-        lines::damage(title);
+    let n = got.count;
+    if !output::write(STDOUT_FILENO, comparison::lines::lines(group, &data[..n])) {
+        os::fail(b"standard output");
     }
-    libc::close(fd);
 }
 
 fn main() {

@@ -5,7 +5,7 @@ use mathlib.Core.List.{List, _++_, List·Memᴰ}
 use mathlib.Core.Logic.{_↔_}
 use Prim.Native.Nat.{ℕ, _≤_, _<_}
 use native.Mathlib.Omega.{arith}
-use lib.ListN.{length, take, drop, length-take, length-drop}
+use lib.ListN.{length, take, drop}
 use lib.Seq.{take-append-seam}
 use borrow.Author.Tests.{lt-ltb, le-ltb, not-true, not-false}
 use Rattle.process.specs.Process.{Status, Run}
@@ -15,9 +15,7 @@ use Rattle.plan.specs.declared.Layout.{Layout}
 use Rattle.plan.specs.declared.Reading.{Reading}
 use Rattle.plan.specs.declared.Reading.the-variants.{Accepted}
 use Rattle.plan.specs.declared.Reading.the-variants as reading
-use Rattle.plan.proofs.Lengths.{sized-rule}
-use Rattle.plan.proofs.Accepted.{accepted-bodies}
-use Rattle.plan.proofs.Demand1.{runnable}
+use Rattle.plan.proofs.Demand1.{demand1}
 use Rattle.meaning.proofs.Laws.{laws}
 use Rattle.job.specs.Demand2.{planProcess}
 use Rattle.least.specs.declared.Least.{Least}
@@ -52,17 +50,14 @@ short-record s work records h k = rw (le-ltb work workSize h, lt-ltb records rec
 pub refused-file : (s : List ℕ) (work records : ℕ) → workSize ≤ work → recordSize ≤ records → (n : ℕ) → readOf s ≡ reading.Refused n → verdictOf s work records ≡ Refused n
 refused-file s work records h k n e = found-answer s work records h k ∙ ap (verdictOn s) e
 
--- the reader permits a rule of at most 127 bytes
-rule-few : (s : List ℕ) (l : Layout) → readOf s ≡ Accepted l → length (bytesOf s (l .rule)) ≤ 127
-rule-few s l h =
-    let b = accepted-bodies 10 9 s l h in
-    let r = sized-rule 127 (l .rule .len) (b .rule .permitted) in
-    simp (length-take, length-drop) (omega (arith, r .high))
-
 module _ (s : List ℕ) (l : Layout) (h : readOf s ≡ Accepted l) (rule : PlanRule s l) where
   -- the stack's value is that of the rule's one part: its places are enough
   stack-keeps : (t : ℕ) → keepsRule s l t ≡ keeps s l rule t
-  stack-keeps t = laws (bytesOf s (l .pairs)) t .satisfied rule (omega (arith, runnable s l h .types-few)) (rule-few s l h)
+  stack-keeps t =
+      let b = demand1 .holds s l h in
+      let few = b .types-hold .size in
+      let short = b .rule-holds .size in
+      laws (bytesOf s (l .pairs)) t .satisfied rule (omega (arith, few .whole, few .few)) (omega (arith, short .whole, short .few))
 
   abbrev breaks : ℕ → Bool
   breaks t = not (keepsRule s l t)

@@ -8,8 +8,6 @@
 // digits 0 to 9, with no sign and no zero before another digit. So a line that is an entry has at most seven bytes, but a line may have any length.
 // A line that is no entry, an empty one too, gets `not an entry`, and the session goes on. A newline ends a line, and so does the end of the input
 // where bytes of a line have come before it.
-mod lines;
-
 ghost use mathlib.Core.Bool.{true};
 ghost use mathlib.Core.Path.{_≡_};
 ghost use Rattle.session.specs.Session.{heardAll};
@@ -17,6 +15,7 @@ use job::Answer;
 use job::Job;
 use libc::STDERR_FILENO;
 use libc::STDIN_FILENO;
+use libc::STDOUT_FILENO;
 use session::Heard;
 use session::Session;
 
@@ -32,7 +31,7 @@ fn spoken(heard: Heard) -> Turn
 {
     let say = heard.say;
     let session = heard.session;
-    let goes_on = lines::say(say);
+    let goes_on = output::write(STDOUT_FILENO, session::text_of(say));
     if !goes_on {
         os::fail(b"standard output");
     }
@@ -99,7 +98,7 @@ fn start(file: &[u8]) {
     let taken = Job::start(file);
     let answer = taken.answer;
     let job = taken.job;
-    if !lines::answer(answer) {
+    if !output::write(STDOUT_FILENO, answers::lines(answer)) {
         os::fail(b"standard output");
         return;
     }
