@@ -1,9 +1,12 @@
 // Reading from a descriptor or a file into a lent buffer, where a read that fails is told from the end of the input.
+//
+// No contract can say what a call of the system did, so those below say only how count and buffer go together. That `read_some`, `fill` and
+// `fill_from` hand on what `read` and `open` answered is to be read here: docs/TRUST.md names it.
 ghost use mathlib.Core.Path.{_≡_};
 ghost use Prim.Native.Nat.{_-_, _≤_};
-ghost use lib.ListN.{length, drop};
+ghost use lib.ListN.{length, take};
 ghost use Rattle.io.specs.Counts.{Counts};
-ghost use Rattle.input.specs.Answer.{answerOf, OneRead, Outside, Gives, FromFile};
+ghost use Rattle.input.specs.Answer.{answerOf, OneRead, Fills};
 
 // What reading gave: how many bytes stand at the start of the buffer, and whether a read failed after them
 // (`os::fail` then says why).
@@ -33,24 +36,22 @@ pub fn read_some(fd: i32, buf: &mut [u8]) -> Filled
     answered(got, buf)
 }
 
-// One read into the bytes from `done` on, up to `n`.
-fn read_after(fd: i32, buf: &mut [u8], done: usize, n: usize) -> Filled
-    requires { ⌜ (done ≤ n) × (n ≤ length (now buf)) ⌝ }
-    ensures { λ r. ⌜ OneRead (n - done) r ⌝ }
-    ensures { λ r. ⌜ Outside done n (now (buf .entry)) (now (buf .exit)) ⌝ }
+// One read into the bytes from `done` on. Those before it stay.
+fn read_after(fd: i32, buf: &mut [u8], done: usize) -> Filled
+    requires { ⌜ done ≤ length (now buf) ⌝ }
+    ensures { λ r. ⌜ OneRead (length (now (buf .entry)) - done) r ⌝ }
+    ensures { λ r. ⌜ take done (now (buf .exit)) ≡ take done (now (buf .entry)) ⌝ }
 {
-    read_some(fd, &mut buf[done..n])
+    read_some(fd, &mut buf[done..])
 }
 
-// Reads into the buffer's first `n` bytes, until they are there, the input ends or a read fails. The bytes after them stay.
-pub fn fill_first(fd: i32, buf: &mut [u8], n: usize) -> Filled
-    requires { ⌜ n ≤ length (now buf) ⌝ }
-    ensures { λ r. ⌜ Gives n (now (buf .exit)) r ⌝ }
-    ensures { λ r. ⌜ drop n (now (buf .exit)) ≡ drop n (now (buf .entry)) ⌝ }
+// Reads until the buffer is full, the input ends or a read fails.
+pub fn fill(fd: i32, buf: &mut [u8]) -> Filled
+    ensures { λ r. ⌜ Fills (now (buf .exit)) r ⌝ }
 {
     let mut done = 0;
-    while done < n {
-        let more = read_after(fd, buf, done, n);
+    while done < buf.len() {
+        let more = read_after(fd, buf, done);
         if more.count == 0 {
             return Filled {
                 count: done,
@@ -65,16 +66,9 @@ pub fn fill_first(fd: i32, buf: &mut [u8], n: usize) -> Filled
     }
 }
 
-// Reads until the buffer is full, the input ends or a read fails.
-pub fn fill(fd: i32, buf: &mut [u8]) -> Filled
-    ensures { λ r. ⌜ Gives (length (now (buf .entry))) (now (buf .exit)) r ⌝ }
-{
-    fill_first(fd, buf, buf.len())
-}
-
 // Reads the file of this name, until the buffer is full, the file ends or something fails.
 pub fn fill_from(path: &[u8], buf: &mut [u8]) -> Filled
-    ensures { λ r. ⌜ FromFile (length (now (buf .entry))) (now (buf .entry)) (now (buf .exit)) r ⌝ }
+    ensures { λ r. ⌜ Counts (r .count) (now (buf .exit)) ⌝ }
 {
     let fd = os::open_read(path);
     if fd < 0 {

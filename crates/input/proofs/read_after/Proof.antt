@@ -1,11 +1,11 @@
--- `input::read_after` meets its contract: the part that is read into has the bytes from `done` up to `n`.
+-- `input::read_after` meets its contract: the part that is read into has the bytes from `done` on.
 use mathlib.Core.Path.{_≡_}
 use Prim.Native.Nat.{_-_}
 use lib.ListN.{length, take, drop, length-drop}
 use lib.Seq.{length-take-le}
+use borrow.Rule.Slice.PartMut.{take-put}
 use native.Mathlib.Omega.{arith}
 use borrow.Author.Needs.{needs}
-use borrow.Rule.Slice.PartMut.{take-put, drop-put}
 use Rattle.input.proofs.read_after.Statement.{statement}
 use Rattle.input.proofs.read_after.Tie as tie
 
@@ -29,15 +29,9 @@ returns c =
     let k = c .before .before in
     let start = k .before .before .before in
     let a = start .args in
-    let e : length (take (a .n - a .done) (drop (a .done) (a .buf .now))) ≡ a .n - a .done =
-    length-take-le (a .n - a .done) (drop (a .done) (a .buf .now)) (simp length-drop (omega (arith, start .pre))) in
-    let long : length (k .read-some .last .1 .0) ≡ a .n - a .done = search (needs, e) in (
-      rw e at (k .read-some .ensures .0),
-      (
-        take-put (a .done) (a .n - a .done) (a .buf .now) (k .read-some .last .1 .0) (omega (arith, start .pre)),
-        drop-put (a .done) (a .n) (a .buf .now) (k .read-some .last .1 .0) (start .pre .0) (start .pre .1) long,
-      ),
-    )
+    let room = length (a .buf .now) - a .done in
+    let e : length (take room (drop (a .done) (a .buf .now))) ≡ room = length-take-le room (drop (a .done) (a .buf .now)) (simp length-drop (omega (arith, start .pre))) in
+    (rw e at (k .read-some .ensures .0), take-put (a .done) room (a .buf .now) (k .read-some .last .1 .0) (start .pre))
 
 pub read-after-spec : {M : Type 1} → statement M
 read-after-spec =

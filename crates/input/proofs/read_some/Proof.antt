@@ -9,7 +9,6 @@ use borrow.Author.Needs.{needs, sfits-of}
 use borrow.Author.Tests.{ltb-true}
 use mir.Facts.{toZ-ofZ}
 use mir.Syntax.{w64}
-use Rattle.libc.specs.Io.{Moved}
 use Rattle.io.proofs.Counting.{counts}
 use Rattle.input.specs.Answer.{answerOf, OneRead}
 use Rattle.input.specs.declared.Filled.{Filled}
@@ -21,8 +20,8 @@ none-came : (got : ℤ) (room : ℕ) → answerOf got room .failed ≡ true → 
 none-came (pos k) room h = let l = ltb-true k 0 h in absurd (omega arith)
 none-came (negsuc k) room h = refl
 
-one-read : (got : ℤ) (room : ℕ) (r : Filled) → Moved room got → r ≡ answerOf got room → r .count ≤ room → OneRead room r
-one-read got room r m e l = record { got = got; moved = m; is = e; most = l; none = rw e (none-came got room) }
+one-read : (got : ℤ) (room : ℕ) (r : Filled) → r ≡ answerOf got room → r .count ≤ room → OneRead room r
+one-read got room r e l = record { most = l; none = rw e (none-came got room) }
 
 read-requires : tie.Need-read-requires
 read-requires c κs = search needs
@@ -39,7 +38,7 @@ returns c =
     let room = length (k .before .before .before .args .buf .now) in
     let same : length (k .read .last .1 .0) ≡ room = omega arith in
     let is : c .answered .result ≡ answerOf (k .read .result) room = simp (toZ-ofZ (sfits-of {w = w64} {z = k .read .result} (k .read .ok)), same) at (c .answered .ensures .0) in
-    (one-read (k .read .result) room (c .answered .result) (k .read .ensures) is (omega arith), counts _ _ (omega arith))
+    (one-read (k .read .result) room (c .answered .result) is (omega arith), counts _ _ (omega arith))
 
 pub read-some-spec : {M : Type 1} → statement M
 read-some-spec = tie.close (tie.spec read-requires answered-requires same-length returns)
