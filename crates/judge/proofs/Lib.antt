@@ -4,7 +4,6 @@ pub mod Replay
 pub mod Decoded
 pub mod Demand3
 pub mod Answer
-pub mod TriedPlans
 pub mod Areas
 pub mod Judging
 pub mod File

@@ -3,4 +3,3 @@ pub mod Shown
 pub mod Judged
 pub mod Inner
 pub mod Demand3
-pub mod TriedPlans

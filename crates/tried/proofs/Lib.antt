@@ -1,0 +1,3 @@
+pub mod CompleteRuns
+pub mod ShownLines
+pub mod TriedPlans
