@@ -1,7 +1,7 @@
 -- The lines of a verdict have room in a text: of a run of 126 bytes there are at most 63 lines, of at most 8 bytes each.
-use mathlib.Core.Path.{_≡_, refl}
+use mathlib.Core.Path.{_≡_}
 use mathlib.Core.Bool.{Bool, true, false, cond}
-use mathlib.Core.List.{List, [], _∷_, _++_}
+use mathlib.Core.List.{List, [], _∷_}
 use Prim.Native.Nat.{ℕ, suc, _+_, _*_, _≤_, _<_}
 use native.Mathlib.Omega.{arith}
 use lib.Dec.{eqb}
@@ -14,7 +14,7 @@ use Rattle.state.specs.declared.Entry.{Entry}
 use Rattle.judge.specs.Shown.{shownEntries}
 use Rattle.judge.specs.declared.Judgement.{Judgement}
 use Rattle.judge.specs.declared.Judgement.the-variants.{Consistent, Violated, Refused}
-use Rattle.report.specs.Lines.{line, numbered, entryLine, entryLines, runLines, verdictLines, inspectLine, violated, refused}
+use Rattle.report.specs.Lines.{line, numbered, entryLines, runLines, verdictLines, inspectLine, violated, refused}
 
 numbered-length : (word : List ℕ) (n : ℕ) → length (numbered word n) ≡ length word + length (decimal n) + 2
 numbered-length word n = rw (length-append word (32 ∷ line (decimal n)), length-append (decimal n) (10 ∷ [])) (omega arith)

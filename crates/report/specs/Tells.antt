@@ -1,6 +1,6 @@
 -- The text that a verdict comes to, for every file. Only which run is shown is left free, and of that `Judged` says what holds.
 use mathlib.Core.Path.{_≡_}
-use mathlib.Core.List.{List, [], _∷_, _++_}
+use mathlib.Core.List.{List, _++_}
 use Prim.Native.Nat.{ℕ}
 use lib.ListN.{replicate}
 use Rattle.text.specs.Text.{empty, appended, textOf}

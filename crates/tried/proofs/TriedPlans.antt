@@ -2,7 +2,6 @@
 -- the theorem on the plan's sets carries that to complete runs. The lines of a violation are those of the one run that leaves the set.
 use mathlib.Core.Path.{_≡_, refl, sym, ap, subst, _∙_}
 use mathlib.Core.Bool.{Bool, true, false, _&&_}
-use mathlib.Core.Logic.{_↔_}
 use mathlib.Core.List.{List, [], _∷_, flatMap, List·Memᴰ, List·Memᴰ·head, List·Memᴰ·tail}
 use Prim.Native.Nat.{ℕ, _≤_}
 use native.Mathlib.Omega.{arith}
@@ -12,8 +11,7 @@ use lib.Seq.{take-all}
 use Rattle.text.specs.Text.{textOf}
 use Rattle.text.specs.Decimal.{digits}
 use Rattle.text.specs.declared.Text.{Text}
-use Rattle.process.specs.Process.{Status, ok, fail, entry, Run}
-use Rattle.process.specs.Figure2.{Complete}
+use Rattle.process.specs.Process.{ok, fail, entry}
 use Rattle.outcomes.specs.Cells.{lines, cell, among}
 use Rattle.outcomes.specs.Families.{outcomes, planSets}
 use Rattle.outcomes.proofs.Members.{among-member}
@@ -22,13 +20,11 @@ use Rattle.blocks.specs.Bounded.{every, total}
 use Rattle.nodes.specs.Fold.{foldFrom}
 use Rattle.bodies.specs.Rule.{ruleFrom}
 use Rattle.plan.specs.Reading.{readOf}
-use Rattle.plan.specs.declared.Layout.{Layout}
 use Rattle.plan.specs.declared.Reading.{Reading}
 use Rattle.plan.specs.declared.Reading.the-variants.{Accepted, Refused}
 use Rattle.meaning.specs.Value.{values, satisfies}
-use Rattle.job.specs.Demand2.{planProcess}
 use Rattle.judge.specs.Verdict.{smallest, planSetsOf, workSize, recordSize, verdictOf}
-use Rattle.judge.specs.Shown.{runSet, shownEntries}
+use Rattle.judge.specs.Shown.{shownEntries}
 use Rattle.judge.specs.Judged.{Judged}
 use Rattle.judge.specs.declared.Judgement.{Judgement}
 use Rattle.judge.specs.declared.Judgement.the-variants as verdict

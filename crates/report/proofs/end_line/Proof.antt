@@ -1,5 +1,4 @@
 -- `report::end_line` meets its contract: the blank, the number, and then the newline.
-use mathlib.Core.Path.{_∙_}
 use borrow.Author.Needs.{needs}
 use Rattle.text.specs.Text.{pushed}
 use Rattle.text.specs.Decimal.{decimal}

@@ -1,5 +1,4 @@
 -- `report::put_line` meets its contract: the text, and then the newline.
-use mathlib.Core.Path.{_∙_}
 use borrow.Author.Needs.{needs}
 use Rattle.report.proofs.Ends.{lined}
 use Rattle.report.proofs.put_line.Statement.{statement}
