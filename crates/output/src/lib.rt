@@ -1,4 +1,4 @@
-// Writing a text to a descriptor.
+// Writing a text to a descriptor. No contract can say what a descriptor takes: the program hands over a text that has one, and it is written once.
 ghost use mathlib.Core.Path.{_≡_};
 ghost use Prim.Native.Nat.{min};
 use text::ROOM;
