@@ -16,8 +16,9 @@ use Rattle.plan.specs.Reading.{bytesOf, readOf}
 use Rattle.plan.specs.declared.Layout.{Layout}
 use Rattle.plan.specs.declared.Reading.{Reading}
 use Rattle.plan.specs.declared.Reading.the-variants as reading
-use Rattle.state.specs.State.{mayCome, freshTable, replay, entryAt, entriesFrom, stateAfter}
-use Rattle.job.specs.Job.{refusal, freshJob, planOf, zerosFrom, tidy, withEntry, takeWith, takeOn, takeOf}
+use Rattle.state.specs.State.{toldBy, mayCome, freshTable, replay, entryAt, entriesFrom, stateAfter}
+use Rattle.job.specs.Demand2.{planProcess, Continues}
+use Rattle.job.specs.Job.{saying, refusal, freshJob, planOf, zerosFrom, tidy, withEntry, takeWith, takeOn, takeOf}
 use Rattle.job.specs.Numbers.{numberOf, Refuses}
 use Rattle.job.specs.Offer.{Standing, onAnswer, next, offer, started, recordOf, Real, Sized}
 use Rattle.state.specs.declared.Entry.{Entry}
@@ -31,7 +32,7 @@ use Rattle.job.proofs.Areas.{zero-past, padded-back}
 use Rattle.job.proofs.Outcomes.{zeros-at}
 use Rattle.job.proofs.Entries.{last-entry}
 use Rattle.job.proofs.Good.{Good, fresh-good, not-taken, taken-so, next-good}
-use Rattle.job.proofs.Standing.{refuses-so}
+use Rattle.job.proofs.Standing.{refuses-so, continues}
 
 -- the first k entries of a record, and zeros after them
 unfoldable firsts : List ℕ → ℕ → List ℕ
@@ -226,6 +227,27 @@ false-refused j z n e = go (refused-or-good j z e)
     go : (takeOf j e ≡ refusal 11 j) ⊎ ((l : Layout) × (acc : readOf (planOf j) ≡ reading.Accepted l) × Good (planOf j) l acc j) → Refuses 11 j (takeOf j e)
     go (inl q) = refuses-so 11 j (takeOf j e) q
     go (inr (l, acc, g)) = absurd (n (real-job j l z (g .neat) acc (ap (λ (x : Replayed). x .ok) (g .state))))
+
+-- an entry is refused, or its job is real and it continues its record
+pub refused-or-permitted : (j : Job) → Sized j → (e : Entry) → (takeOf j e ≡ refusal 11 j) ⊎ ((r : Real j) × Continues (planProcess (r .file) (r .layout)) (recordOf j) e)
+unfolding real-job
+refused-or-permitted j z e = go (refused-or-good j z e)
+  where
+    Found : Type 0
+    Found = (r : Real j) × Continues (planProcess (r .file) (r .layout)) (recordOf j) e
+
+    on-entry : (l : Layout) (acc : readOf (planOf j) ≡ reading.Accepted l) (g : Good (planOf j) l acc j)
+        → (mayCome (bytesOf (planOf j) (l .types)) (bytesOf (planOf j) (l .nodes)) (g .table) (e .leaf) (e .outcome) ≡ true)
+        ⊎ (mayCome (bytesOf (planOf j) (l .types)) (bytesOf (planOf j) (l .nodes)) (g .table) (e .leaf) (e .outcome) ≡ false)
+        → (takeOf j e ≡ refusal 11 j) ⊎ Found
+    on-entry l acc g (inl m) =
+        let x : Standing = record { job = j; told = saying (toldBy (bytesOf (planOf j) (l .nodes)) (g .table)) } in
+        inr (real-job j l z (g .neat) acc (ap (λ (x : Replayed). x .ok) (g .state)), continues (planOf j) l acc x (record { good = g; told = refl }) e .0 m)
+    on-entry l acc g (inr m) = inl (not-taken (planOf j) l acc j g e m)
+
+    go : (takeOf j e ≡ refusal 11 j) ⊎ ((l : Layout) × (acc : readOf (planOf j) ≡ reading.Accepted l) × Good (planOf j) l acc j) → (takeOf j e ≡ refusal 11 j) ⊎ Found
+    go (inl q) = inl q
+    go (inr (l, acc, g)) = on-entry l acc g (decide _)
 
 -- 13 never falls
 pub never-stalls : (j : Job) → Sized j → (e : Entry) → numberOf (takeOf j e .answer) ≡ 13 → ⊥

@@ -66,7 +66,7 @@ module _ (s : List ℕ) (l : Layout) (acc : readOf s ≡ Accepted l) where
     may e = mayCome T N (f .good .table) (e .leaf) (e .outcome)
 
     -- an entry may come exactly where it continues the record
-    continues : (e : Entry) → (may e ≡ true) ↔ Continues P w e
+    pub continues : (e : Entry) → (may e ≡ true) ↔ Continues P w e
     continues e =
         let (to, from) = comes T N (runs-on s l acc) w (f .good .table) (reached .stands) (reached .begins) (e .leaf) (e .outcome) in
         (λ h. let (t, o, z) = to h in record { status = t; outcome = o; begins = z }, λ c. from (c .status, c .outcome, c .begins))

@@ -1,0 +1,4 @@
+pub mod Refused
+pub mod Runner
+pub mod Verdict
+pub mod Promises

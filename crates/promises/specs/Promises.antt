@@ -1,0 +1,9 @@
+-- The three demands side by side. `promises` in proofs/ proves them, from what the crates below prove of themselves.
+use Rattle.promises.specs.Refused.{Demand1}
+use Rattle.promises.specs.Runner.{Demand2}
+use Rattle.promises.specs.Verdict.{Demand3}
+
+pub record Promises : Type 0 where
+  pub refused : Demand1
+  pub runner : Demand2
+  pub verdict : Demand3

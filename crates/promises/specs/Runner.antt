@@ -1,0 +1,18 @@
+-- Demand 2: "For every list of entries offered to a fresh job, the runner lets through exactly the beginnings of the runs that Figure 2
+-- gives for the plan, passing over refused entries, and says that a run may end exactly where that figure has a complete one."
+use mathlib.Core.Path.{_≡_}
+use mathlib.Core.List.{List}
+use Prim.Native.Nat.{ℕ}
+use Rattle.plan.specs.Reading.{readOf}
+use Rattle.plan.specs.declared.Layout.{Layout}
+use Rattle.plan.specs.declared.Reading.the-variants.{Accepted}
+use Rattle.state.specs.declared.Entry.{Entry}
+use Rattle.job.specs.Job.{startOf}
+use Rattle.job.specs.Offer.{offer, started}
+use Rattle.job.specs.Demand2.{planProcess, Starts, Honest}
+
+pub record Demand2 : Type 0 where
+  -- the fresh job of an accepted plan, and what its start tells
+  pub starts : (s : List ℕ) (l : Layout) → readOf s ≡ Accepted l → Starts (started s l) (startOf s)
+  -- wherever it stands after any list of entries, refused ones passed over
+  pub honest : (s : List ℕ) (l : Layout) → readOf s ≡ Accepted l → (es : List Entry) → Honest (planProcess s l) (offer (started s l) es)

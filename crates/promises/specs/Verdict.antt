@@ -1,0 +1,23 @@
+-- Demand 3: "For every accepted plan the verdict is "consistent" exactly when every complete run of it, whatever the interleaving, the
+-- choices and the failures that the action types permit, leaves a set of finished actions that satisfies the normalised rule. Otherwise
+-- the verdict gives a set number and shows a complete run of the plan that breaks the rule and leaves exactly that set. When this run is
+-- offered to a fresh job of the plan, every entry is taken, and after the last the runner says that the run may end. And every other
+-- complete run of the plan that breaks the rule leaves a set at least as large, read as a binary number."
+use mathlib.Core.Path.{_≡_}
+use mathlib.Core.List.{List}
+use Prim.Native.Nat.{ℕ, _≤_}
+use lib.ListN.{length}
+use Rattle.plan.specs.Reading.{readOf}
+use Rattle.plan.specs.declared.Layout.{Layout}
+use Rattle.plan.specs.declared.Reading.the-variants.{Accepted}
+use Rattle.judge.specs.Verdict.{workSize, recordSize}
+use Rattle.judge.specs.Judged.{Judged}
+use Rattle.judge.specs.Demand3.{PlanRule, Says}
+use Rattle.judge.specs.declared.Judgement.{Judgement}
+
+pub record Demand3 : Type 0 where
+  -- the bytes of an accepted plan's rule are put together in some way
+  pub rule : (s : List ℕ) (l : Layout) → readOf s ≡ Accepted l → PlanRule s l
+  -- by every such way the verdict says what it must, by the contract of `verdict`
+  pub says : (s work work′ old new : List ℕ) (v : Judgement) → Judged s work work′ old new v → workSize ≤ length work → recordSize ≤ length old
+      → (l : Layout) → readOf s ≡ Accepted l → (rule : PlanRule s l) → Says s l rule new v
