@@ -10,14 +10,14 @@ use Rattle.text.specs.Decimal.{decimal}
 use Rattle.text.specs.Text.{pushed, appended}
 use Rattle.text.specs.declared.Text.{Text}
 use Rattle.text.proofs.Texts.{appended-both, appended-one}
-use Rattle.text.proofs.Decimals.{decimal-length, decimal-of-byte}
+use Rattle.text.proofs.Decimals.{decimal-of-byte}
 use Rattle.job.specs.declared.Status.the-variants.{Succeeded, Failed}
 use Rattle.job.specs.declared.End.{End}
 use Rattle.job.specs.declared.End.the-variants.{Open, MayEnd}
 use Rattle.job.specs.declared.Told.{Told}
 use Rattle.job.specs.declared.Answer.{Answer}
 use Rattle.job.specs.declared.Answer.the-variants as answer
-use Rattle.answers.specs.Lines.{comesNext, leafText, leavesText, endLine, toldLines, refusedLine, answerLines}
+use Rattle.answers.specs.Lines.{comesNext, leafText, leavesText, endLine, toldLines}
 
 pub leaf-comes : (t : Text) (next leaf : ℕ) → comesNext next leaf ≡ true → appended (pushed t 32) (decimal leaf) ≡ appended t (leafText next leaf)
 unfolding appended
@@ -46,11 +46,6 @@ pub told-put : (t : Text) (told : Told)
 unfolding toldLines
 told-put t told = rw (appended-both, appended-both, appended-both _ (10 ∷ []) (endLine (told .end)), appended-one)
 
-pub refused-put : (t : Text) (n : ℕ)
-    → pushed (appended (appended t (114 ∷ 101 ∷ 102 ∷ 117 ∷ 115 ∷ 101 ∷ 100 ∷ 32 ∷ [])) (decimal n)) 10 ≡ appended t (refusedLine n)
-unfolding refusedLine
-refused-put t n = rw (appended-both, appended-both, appended-one)
-
 -- how long the lines are
 leaf-few : (next leaf : ℕ) → leaf < 1000 → length (leafText next leaf) ≤ 4
 leaf-few next leaf h = go (comesNext next leaf) refl
@@ -72,7 +67,3 @@ end-few (MayEnd Failed) = omega arith
 pub told-few : (t : Told) → length (toldLines t) ≤ 640
 unfolding toldLines
 told-few t = simp length-append (omega (arith, leaves-few (t .next) 0 64 (omega arith), end-few (t .end)))
-
-pub refused-few : (n : ℕ) → length (refusedLine n) ≤ 640
-unfolding refusedLine
-refused-few n = simp length-append (omega (arith, decimal-length n))

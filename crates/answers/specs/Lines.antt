@@ -5,6 +5,7 @@ use mathlib.Core.List.{List, [], _∷_, _++_}
 use Prim.Native.Nat.{ℕ, zero, suc, _+_, _/_, _%_, _^_}
 use lib.Dec.{eqb}
 use Rattle.text.specs.Decimal.{decimal}
+use Rattle.text.specs.Lines.{numbered, refused}
 use Rattle.job.specs.declared.Status.the-variants.{Succeeded, Failed}
 use Rattle.job.specs.declared.End.{End}
 use Rattle.job.specs.declared.End.the-variants.{Open, MayEnd}
@@ -35,10 +36,6 @@ endLine (MayEnd Failed) = 109 ∷ 97 ∷ 121 ∷ 32 ∷ 101 ∷ 110 ∷ 100 ∷ 
 unfoldable pub toldLines : Told → List ℕ
 toldLines t = (110 ∷ 101 ∷ 120 ∷ 116 ∷ []) ++ (leavesText (t .next) 0 64 ++ (10 ∷ endLine (t .end)))
 
--- `refused` and the number
-unfoldable pub refusedLine : ℕ → List ℕ
-refusedLine n = (114 ∷ 101 ∷ 102 ∷ 117 ∷ 115 ∷ 101 ∷ 100 ∷ 32 ∷ []) ++ (decimal n ++ (10 ∷ []))
-
 abbrev pub answerLines : Answer → List ℕ
 answerLines (answer.Told t) = toldLines t
-answerLines (answer.Refused n) = refusedLine n
+answerLines (answer.Refused n) = numbered refused n

@@ -6,7 +6,7 @@ use job::Told;
 use text::Text;
 ghost use mathlib.Core.Path.{_≡_};
 ghost use Rattle.text.specs.Text.{appended, textOf};
-ghost use Rattle.answers.specs.Lines.{comesNext, leafText, leavesText, endLine, toldLines, refusedLine, answerLines};
+ghost use Rattle.answers.specs.Lines.{comesNext, leafText, leavesText, endLine, toldLines, answerLines};
 
 // Whether the leaf is among those that may come next, whose bits are set in `next`.
 fn comes_next(next: u64, leaf: u64) -> bool
@@ -60,19 +60,12 @@ fn put_told(t: Text, told: Told) -> Text
     put_end(text::push(leaves, 10), end)
 }
 
-fn put_refused(t: Text, number: u8) -> Text
-    ensures { λ r. ⌜ r ≡ appended t (refusedLine number) ⌝ }
-{
-    let numbered = text::put_decimal(text::put(t, b"refused "), number as u64);
-    text::push(numbered, 10)
-}
-
 // The answer's lines.
 pub fn lines(a: Answer) -> Text
     ensures { λ r. ⌜ r ≡ textOf (answerLines a) ⌝ }
 {
     match a {
         Answer::Told(told) => put_told(text::empty(), told),
-        Answer::Refused(number) => put_refused(text::empty(), number),
+        Answer::Refused(number) => text::put_numbered(text::empty(), b"refused", number as u64),
     }
 }

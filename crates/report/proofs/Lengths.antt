@@ -7,21 +7,16 @@ use native.Mathlib.Omega.{arith}
 use lib.Dec.{eqb}
 use lib.ListN.{length, getD, length-append}
 use Rattle.text.specs.Decimal.{decimal}
-use Rattle.text.proofs.Decimals.{decimal-length, decimal-of-byte}
+use Rattle.text.specs.Lines.{numbered, refused}
+use Rattle.text.proofs.Decimals.{decimal-of-byte}
+use Rattle.text.proofs.Ends.{numbered-length, numbered-short}
 use Rattle.plan.specs.declared.Reading.{Reading}
 use Rattle.plan.specs.declared.Reading.the-variants as reading
 use Rattle.state.specs.declared.Entry.{Entry}
 use Rattle.judge.specs.Shown.{shownEntries}
 use Rattle.judge.specs.declared.Judgement.{Judgement}
 use Rattle.judge.specs.declared.Judgement.the-variants.{Consistent, Violated, Refused}
-use Rattle.report.specs.Lines.{line, numbered, entryLines, runLines, verdictLines, inspectLine, violated, refused}
-
-numbered-length : (word : List ℕ) (n : ℕ) → length (numbered word n) ≡ length word + length (decimal n) + 2
-numbered-length word n = rw (length-append word (32 ∷ line (decimal n)), length-append (decimal n) (10 ∷ [])) (omega arith)
-
--- a word of at most 10 bytes, and any number
-pub numbered-short : (word : List ℕ) (n : ℕ) → length word ≤ 10 → length (numbered word n) ≤ 32
-numbered-short word n h = omega (arith, numbered-length word n, decimal-length n)
+use Rattle.report.specs.Lines.{entryLines, runLines, verdictLines, inspectLine, violated}
 
 entry-length : (leaf outcome : ℕ) → leaf < 256 → outcome < 256 → length (numbered (decimal leaf) outcome) ≤ 8
 entry-length leaf outcome h k = omega (arith, numbered-length (decimal leaf) outcome, decimal-of-byte leaf (omega arith), decimal-of-byte outcome (omega arith))

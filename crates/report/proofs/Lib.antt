@@ -1,3 +1,2 @@
-pub mod Ends
 pub mod RunLines
 pub mod Lengths

@@ -11,7 +11,8 @@ use Rattle.text.specs.Text.{appended}
 use Rattle.text.specs.declared.Text.{Text}
 use Rattle.text.proofs.Texts.{appended-both}
 use Rattle.judge.specs.Shown.{shownEntries}
-use Rattle.report.specs.Lines.{numbered, entryLines, runLines}
+use Rattle.text.specs.Lines.{numbered}
+use Rattle.report.specs.Lines.{entryLines, runLines}
 
 entry-off : (run : List ℕ) (i : ℕ) → 2 * i + 1 < length run → drop (2 * i) run ≡ getD run (2 * i) 0 ∷ getD run (2 * i + 1) 0 ∷ drop (2 * (i + 1)) run
 entry-off run i h =

@@ -2,6 +2,7 @@
 use mathlib.Core.List.{List, [], _∷_, _++_}
 use Prim.Native.Nat.{ℕ}
 use Rattle.text.specs.Decimal.{decimal}
+use Rattle.text.specs.Lines.{line, numbered, refused}
 use Rattle.plan.specs.declared.Reading.{Reading}
 use Rattle.plan.specs.declared.Reading.the-variants as reading
 use Rattle.state.specs.declared.Entry.{Entry}
@@ -17,21 +18,9 @@ consistent = 99 ∷ 111 ∷ 110 ∷ 115 ∷ 105 ∷ 115 ∷ 116 ∷ 101 ∷ 110 
 abbrev pub violated : List ℕ
 violated = 118 ∷ 105 ∷ 111 ∷ 108 ∷ 97 ∷ 116 ∷ 101 ∷ 100 ∷ []
 
--- The text "refused".
-abbrev pub refused : List ℕ
-refused = 114 ∷ 101 ∷ 102 ∷ 117 ∷ 115 ∷ 101 ∷ 100 ∷ []
-
 -- The text "accepted".
 abbrev pub accepted : List ℕ
 accepted = 97 ∷ 99 ∷ 99 ∷ 101 ∷ 112 ∷ 116 ∷ 101 ∷ 100 ∷ []
-
--- A text and a newline (10).
-abbrev pub line : List ℕ → List ℕ
-line text = text ++ (10 ∷ [])
-
--- A word, a blank (32) and a number, on a line.
-abbrev pub numbered : List ℕ → ℕ → List ℕ
-numbered word n = word ++ (32 ∷ line (decimal n))
 
 -- "leaf and outcome"
 abbrev pub entryLine : Entry → List ℕ

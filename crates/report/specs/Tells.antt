@@ -8,7 +8,8 @@ use Rattle.text.specs.declared.Text.{Text}
 use Rattle.judge.specs.Verdict.{workSize, recordSize}
 use Rattle.judge.specs.Judged.{Judged}
 use Rattle.judge.specs.declared.Finding.{Finding}
-use Rattle.report.specs.Lines.{line, verdictLines}
+use Rattle.text.specs.Lines.{line}
+use Rattle.report.specs.Lines.{verdictLines}
 
 -- The verdict on the file, in areas of zeros.
 pub record Finds (s : List ℕ) (f : Finding) : Type 0 where

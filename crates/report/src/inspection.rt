@@ -11,8 +11,8 @@ fn told(reading: Reading) -> Text
     ensures { λ r. ⌜ r ≡ textOf (inspectLine reading) ⌝ }
 {
     match reading {
-        Reading::Accepted(_) => crate::put_line(text::empty(), b"accepted"),
-        Reading::Refused(number) => crate::put_numbered(text::empty(), b"refused", number as u64),
+        Reading::Accepted(_) => text::put_line(text::empty(), b"accepted"),
+        Reading::Refused(number) => text::put_numbered(text::empty(), b"refused", number as u64),
     }
 }
 

@@ -1,10 +1,10 @@
 // The lines of a verdict as a text: `consistent`; or `violated` and the set, and then a line for each entry of the run that is shown, leaf and
 // outcome; or `refused` and document 01's number for why.
 ghost use mathlib.Core.Path.{_≡_};
-ghost use mathlib.Core.List.{_∷_};
 ghost use Rattle.text.specs.Decimal.{decimal};
+ghost use Rattle.text.specs.Lines.{numbered};
 ghost use Rattle.text.specs.Text.{appended, textOf};
-ghost use Rattle.report.specs.Lines.{line, numbered, runLines, verdictLines};
+ghost use Rattle.report.specs.Lines.{runLines, verdictLines};
 ghost use Rattle.report.specs.Tells.{Finds, Tells, TellsNamed};
 use judge::Finding;
 use judge::Judgement;
@@ -12,32 +12,11 @@ use text::Text;
 
 pub mod inspection;
 
-// The text and a newline more.
-fn put_line(t: Text, s: &[u8]) -> Text
-    ensures { λ r. ⌜ r ≡ appended t (line (now (s .entry))) ⌝ }
-{
-    text::push(text::put(t, s), 10)
-}
-
-// A blank, a number and a newline more.
-fn end_line(t: Text, number: u64) -> Text
-    ensures { λ r. ⌜ r ≡ appended t (32 ∷ line (decimal number)) ⌝ }
-{
-    text::push(text::put_decimal(text::push(t, 32), number), 10)
-}
-
-// A word and a number on a line more.
-fn put_numbered(t: Text, word: &[u8], number: u64) -> Text
-    ensures { λ r. ⌜ r ≡ appended t (numbered (now (word .entry)) number) ⌝ }
-{
-    end_line(text::put(t, word), number)
-}
-
 // Leaf and outcome on a line more.
 fn put_entry(t: Text, leaf: u8, outcome: u8) -> Text
     ensures { λ r. ⌜ r ≡ appended t (numbered (decimal leaf) outcome) ⌝ }
 {
-    end_line(text::put_decimal(t, leaf as u64), outcome as u64)
+    text::end_line(text::put_decimal(t, leaf as u64), outcome as u64)
 }
 
 // The entries of the run, up to the first whose outcome is 0.
@@ -63,9 +42,9 @@ fn put_verdict(t: Text, j: Judgement, run: [u8; 126]) -> Text
     ensures { λ r. ⌜ r ≡ appended t (verdictLines j run) ⌝ }
 {
     match j {
-        Judgement::Consistent => put_line(t, b"consistent"),
-        Judgement::Violated(set) => put_run(put_numbered(t, b"violated", set as u64), run),
-        Judgement::Refused(number) => put_numbered(t, b"refused", number as u64),
+        Judgement::Consistent => text::put_line(t, b"consistent"),
+        Judgement::Violated(set) => put_run(text::put_numbered(t, b"violated", set as u64), run),
+        Judgement::Refused(number) => text::put_numbered(t, b"refused", number as u64),
     }
 }
 
@@ -103,5 +82,5 @@ pub fn named_lines(name: &[u8], file: &[u8]) -> Text
     let found = find(file);
     let run = found.run;
     let judgement = found.judgement;
-    put_verdict(put_line(text::empty(), name), judgement, run)
+    put_verdict(text::put_line(text::empty(), name), judgement, run)
 }

@@ -1,7 +1,9 @@
 // A text as a value: what a program writes is put together here, and written once.
 ghost use mathlib.Core.Path.{_≡_};
+ghost use mathlib.Core.List.{_∷_};
 ghost use Rattle.text.specs.Text.{empty, pushed, appended};
 ghost use Rattle.text.specs.Decimal.{decimal};
+ghost use Rattle.text.specs.Lines.{line, numbered};
 
 // The bytes that a text has room for.
 pub const ROOM: usize = 640;
@@ -55,4 +57,25 @@ pub fn put_decimal(t: Text, n: u64) -> Text
         return push(t, last);
     }
     push(put_decimal(t, n / 10), last)
+}
+
+// The text and a newline more.
+pub fn put_line(t: Text, s: &[u8]) -> Text
+    ensures { λ r. ⌜ r ≡ appended t (line (now (s .entry))) ⌝ }
+{
+    push(put(t, s), 10)
+}
+
+// A blank, a number and a newline more.
+pub fn end_line(t: Text, number: u64) -> Text
+    ensures { λ r. ⌜ r ≡ appended t (32 ∷ line (decimal number)) ⌝ }
+{
+    push(put_decimal(push(t, 32), number), 10)
+}
+
+// A word and a number on a line more.
+pub fn put_numbered(t: Text, word: &[u8], number: u64) -> Text
+    ensures { λ r. ⌜ r ≡ appended t (numbered (now (word .entry)) number) ⌝ }
+{
+    end_line(put(t, word), number)
 }

@@ -22,7 +22,8 @@ use Rattle.judge.specs.Shown.{shownRun, runSet}
 use Rattle.judge.specs.Judged.{Recorded, RecordAfter}
 use Rattle.judge.specs.declared.Judgement.{Judgement}
 use Rattle.judge.specs.declared.Judgement.the-variants.{Consistent, Violated, Refused}
-use Rattle.report.specs.Lines.{line, consistent, verdictLines}
+use Rattle.text.specs.Lines.{line}
+use Rattle.report.specs.Lines.{consistent, verdictLines}
 use Rattle.tried.specs.TriedPlans.{TriedPlan}
 
 -- the runs of a list that leave the set

@@ -1,6 +1,8 @@
 -- `answers::lines` meets its contract: the lines have room in a text.
+use Rattle.text.specs.Lines.{refused}
 use Rattle.text.proofs.Texts.{appended-empty}
-use Rattle.answers.proofs.Texts.{told-few, refused-few}
+use Rattle.text.proofs.Ends.{put-alone, numbered-short}
+use Rattle.answers.proofs.Texts.{told-few}
 use native.Mathlib.Omega.{arith}
 use borrow.Author.Needs.{needs}
 use Rattle.answers.proofs.lines.Statement.{statement}
@@ -21,8 +23,14 @@ enum-known-a-2 c = search needs
 empty-requires-2 : tie.Need-empty-requires-2
 empty-requires-2 c κs = search needs
 
-put-refused-requires : tie.Need-put-refused-requires
-put-refused-requires c κs = search needs
+slice-aggregate-put-numbered : tie.Need-slice-aggregate-put-numbered
+slice-aggregate-put-numbered c = search needs
+
+cast-put-numbered : tie.Need-cast-put-numbered
+cast-put-numbered c = search needs
+
+put-numbered-requires : tie.Need-put-numbered-requires
+put-numbered-requires c κs = search needs
 
 returns : tie.Need-returns
 returns c =
@@ -30,7 +38,8 @@ returns c =
 
 returns-2 : tie.Need-returns-2
 returns-2 c =
-    rw (c .before .before .before .a2 .given .1, c .put-refused .ensures, c .before .empty2 .ensures) (appended-empty _ (refused-few _))
+    let n = c .before .before .before .before .a2 .given in
+    rw (n .1) (put-alone _ (c .put-numbered .ensures) (c .before .before .empty2 .ensures) (omega (arith, numbered-short refused (n .0 .0) (omega arith))))
 
 pub lines-spec : {M : Type 1} → statement M
 lines-spec =
@@ -41,6 +50,8 @@ lines-spec =
     put-told-requires
     enum-known-a-2
     empty-requires-2
-    put-refused-requires
+    slice-aggregate-put-numbered
+    cast-put-numbered
+    put-numbered-requires
     returns
     returns-2)

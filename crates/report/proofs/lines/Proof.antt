@@ -6,7 +6,7 @@ use mir.Syntax.{w8}
 use lib.ListN.{length, getD}
 use borrow.Author.Needs.{needs}
 use Rattle.report.specs.Lines.{verdictLines}
-use Rattle.report.proofs.Ends.{put-alone}
+use Rattle.text.proofs.Ends.{put-alone}
 use Rattle.report.proofs.Lengths.{Bytes, verdict-length}
 use Rattle.report.proofs.lines.Statement.{statement}
 use Rattle.report.proofs.lines.Tie as tie

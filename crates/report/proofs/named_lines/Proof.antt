@@ -2,8 +2,8 @@
 use mathlib.Core.Path.{ap, _∙_}
 use borrow.Author.Needs.{needs}
 use Rattle.text.specs.Text.{appended}
-use Rattle.report.specs.Lines.{line}
-use Rattle.report.proofs.Ends.{put-both}
+use Rattle.text.specs.Lines.{line}
+use Rattle.text.proofs.Ends.{put-both}
 use Rattle.report.proofs.named_lines.Statement.{statement}
 use Rattle.report.proofs.named_lines.Tie as tie
 

@@ -2,7 +2,7 @@
 use mathlib.Core.List.{_∷_}
 use borrow.Author.Needs.{needs}
 use Rattle.text.specs.Decimal.{decimal}
-use Rattle.report.specs.Lines.{line}
+use Rattle.text.specs.Lines.{line}
 use Rattle.text.proofs.Texts.{appended-both}
 use Rattle.report.proofs.put_entry.Statement.{statement}
 use Rattle.report.proofs.put_entry.Tie as tie

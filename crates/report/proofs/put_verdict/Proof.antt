@@ -1,6 +1,6 @@
 -- `report::put_verdict` meets its contract, answer by answer.
 use borrow.Author.Needs.{needs}
-use Rattle.report.proofs.Ends.{put-both}
+use Rattle.text.proofs.Ends.{put-both}
 use Rattle.report.proofs.put_verdict.Statement.{statement}
 use Rattle.report.proofs.put_verdict.Tie as tie
 

@@ -2,7 +2,7 @@
 use native.Mathlib.Omega.{arith}
 use borrow.Author.Needs.{needs}
 use Rattle.plan.specs.declared.Reading.the-variants.{Refused}
-use Rattle.report.proofs.Ends.{put-alone}
+use Rattle.text.proofs.Ends.{put-alone}
 use Rattle.report.proofs.Lengths.{inspect-length}
 use Rattle.report.proofs.inspection.told.Statement.{statement}
 use Rattle.report.proofs.inspection.told.Tie as tie

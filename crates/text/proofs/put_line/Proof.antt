@@ -1,8 +1,8 @@
--- `report::put_line` meets its contract: the text, and then the newline.
+-- `text::put_line` meets its contract: the text, and then the newline.
 use borrow.Author.Needs.{needs}
-use Rattle.report.proofs.Ends.{lined}
-use Rattle.report.proofs.put_line.Statement.{statement}
-use Rattle.report.proofs.put_line.Tie as tie
+use Rattle.text.proofs.Ends.{lined}
+use Rattle.text.proofs.put_line.Statement.{statement}
+use Rattle.text.proofs.put_line.Tie as tie
 
 put-requires : tie.Need-put-requires
 put-requires c κs = search needs

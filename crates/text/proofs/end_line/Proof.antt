@@ -1,11 +1,11 @@
--- `report::end_line` meets its contract: the blank, the number, and then the newline.
+-- `text::end_line` meets its contract: the blank, the number, and then the newline.
 use borrow.Author.Needs.{needs}
 use Rattle.text.specs.Text.{pushed}
 use Rattle.text.specs.Decimal.{decimal}
-use Rattle.report.specs.Lines.{line}
-use Rattle.report.proofs.Ends.{lined, appended-first}
-use Rattle.report.proofs.end_line.Statement.{statement}
-use Rattle.report.proofs.end_line.Tie as tie
+use Rattle.text.specs.Lines.{line}
+use Rattle.text.proofs.Ends.{lined, appended-first}
+use Rattle.text.proofs.end_line.Statement.{statement}
+use Rattle.text.proofs.end_line.Tie as tie
 
 push-requires : tie.Need-push-requires
 push-requires c κs = search needs

@@ -1,11 +1,11 @@
--- `report::put_numbered` meets its contract: the word, and then the rest of its line.
+-- `text::put_numbered` meets its contract: the word, and then the rest of its line.
 use mathlib.Core.List.{_∷_}
 use borrow.Author.Needs.{needs}
 use Rattle.text.specs.Decimal.{decimal}
-use Rattle.report.specs.Lines.{line}
+use Rattle.text.specs.Lines.{line}
 use Rattle.text.proofs.Texts.{appended-both}
-use Rattle.report.proofs.put_numbered.Statement.{statement}
-use Rattle.report.proofs.put_numbered.Tie as tie
+use Rattle.text.proofs.put_numbered.Statement.{statement}
+use Rattle.text.proofs.put_numbered.Tie as tie
 
 put-requires : tie.Need-put-requires
 put-requires c κs = search needs

@@ -1,0 +1,16 @@
+-- The lines that more than one program writes, as bytes.
+use mathlib.Core.List.{List, [], _∷_, _++_}
+use Prim.Native.Nat.{ℕ}
+use Rattle.text.specs.Decimal.{decimal}
+
+-- A text and a newline (10).
+abbrev pub line : List ℕ → List ℕ
+line text = text ++ (10 ∷ [])
+
+-- A word, a blank (32) and a number, on a line.
+abbrev pub numbered : List ℕ → ℕ → List ℕ
+numbered word n = word ++ (32 ∷ line (decimal n))
+
+-- The text "refused".
+abbrev pub refused : List ℕ
+refused = 114 ∷ 101 ∷ 102 ∷ 117 ∷ 115 ∷ 101 ∷ 100 ∷ []
