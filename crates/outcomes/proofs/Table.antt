@@ -1,12 +1,14 @@
--- A test that antt computes at all 245 places of the chart, and the law that carries it to each cell.
-use mathlib.Core.Path.{_≡_}
-use mathlib.Core.List.{List}
-use mathlib.Core.Bool.{Bool, true, false, _&&_}
+-- A test that antt computes at all 245 places of the chart, and the law that carries it to each cell. The chart as a list has each cell at
+-- its place (`cell-in-chart`).
+use mathlib.Core.Path.{_≡_, refl, _∙_, fun-ext}
+use mathlib.Core.Bool.{Bool, true, false, cond, _&&_}
 use Prim.Native.Nat.{ℕ, zero, suc, _+_, _-_, _*_, _/_, _%_, _≤_, _<_}
 use native.Mathlib.Omega.{arith}
-use lib.Dec.{T, eqb, eqb→eq}
+use lib.Dec.{T, ltb}
 use lib.ListN.{getD}
+use borrow.Author.Tests.{ltb-false}
 use Rattle.outcomes.specs.Cells.{cell}
+use Rattle.outcomes.specs.Table.{listed, chart, cellIn}
 
 abbrev below : ℕ → (ℕ → Bool) → Bool
 below zero p = true
@@ -33,6 +35,28 @@ at-cell p t {form} {l} {r} h₁ h₂ h₃ h₄ =
     let e₃ : k % 7 ≡ r = omega arith in
     rw (e₁, e₂, e₃) at (at-number 245 (λ k. p (k / 49 + 3) (k / 7 % 7) (k % 7)) t k (omega arith))
 
--- a list whose 245 entries pass the test is the cells
-pub listed-cell : (table : List ℕ) → T (all-cells (λ form l r. eqb (getD table ((form - 3) * 49 + l * 7 + r) 0) (cell form l r))) → (form l r : ℕ) → 3 ≤ form → form ≤ 7 → l < 7 → r < 7 → getD table ((form - 3) * 49 + l * 7 + r) 0 ≡ cell form l r
-listed-cell table t form l r h₁ h₂ h₃ h₄ = eqb→eq _ _ (at-cell (λ form l r. eqb (getD table ((form - 3) * 49 + l * 7 + r) 0) (cell form l r)) t h₁ h₂ h₃ h₄)
+-- what is listed stands at its place
+getD-listed : (n : ℕ) (f : ℕ → ℕ) (k : ℕ) → k < n → getD (listed n f) k 0 ≡ f k
+getD-listed zero f k h = absurd (omega arith)
+getD-listed (suc n) f zero h = refl
+getD-listed (suc n) f (suc k) h = getD-listed n (λ k. f (suc k)) k (omega arith)
+
+in-chart : (form l r : ℕ) → 3 ≤ form → form ≤ 7 → l < 7 → r < 7 → getD chart ((form - 3) * 49 + l * 7 + r) 0 ≡ cell form l r
+unfolding chart
+in-chart form l r h₁ h₂ h₃ h₄ =
+    let k : ℕ = (form - 3) * 49 + l * 7 + r in
+    let e₁ : k / 49 + 3 ≡ form = omega arith in
+    let e₂ : k / 7 % 7 ≡ l = omega arith in
+    let e₃ : k % 7 ≡ r = omega arith in
+    getD-listed 245 (λ k. cell (k / 49 + 3) (k / 7 % 7) (k % 7)) k (omega arith) ∙ rw (e₁, e₂, e₃)
+
+unless : (b : Bool) (x y : ℕ) → (b ≡ false → x ≡ y) → cond b 7 x ≡ cond b 7 y
+unless true x y h = refl
+unless false x y h = h refl
+
+-- what the chart gives is the cell, inside and outside of it
+pub cell-in-chart : (form : ℕ) → cellIn chart form ≡ cell form
+unfolding cellIn cell
+cell-in-chart form = fun-ext (λ l. fun-ext (λ r.
+    unless (ltb form 3) _ _ (λ e₁. unless (ltb 7 form) _ _ (λ e₂. unless (ltb 6 l) _ _ (λ e₃. unless (ltb 6 r) _ _ (λ e₄.
+    in-chart form l r (ltb-false _ _ e₁) (ltb-false _ _ e₂) (omega (arith, ltb-false 6 l e₃)) (omega (arith, ltb-false 6 r e₄)) ∙ simp (e₁, e₂, e₃, e₄)))))))

@@ -2,6 +2,7 @@
 // fastest.
 ghost use mathlib.Core.Path.{_≡_};
 ghost use Rattle.outcomes.specs.Cells.{cell};
+ghost use Rattle.outcomes.specs.Table.{cellIn, chart};
 
 const CHART: [u8; 245] = [
     // Sequence, left 0.
@@ -286,9 +287,16 @@ const CHART: [u8; 245] = [
     6,
 ];
 
-// The code of a node of the form, from the codes of its sides: 7 where the two cannot occur, or are no codes, or it is no such form.
-pub fn cell(form: u8, left: u8, right: u8) -> u8
-    ensures { λ r. ⌜ r ≡ cell form left right ⌝ }
+// The whole chart, for a caller that looks up many cells.
+pub fn table() -> [u8; 245]
+    ensures { λ r. ⌜ r ≡ chart ⌝ }
+{
+    CHART
+}
+
+// What a lent table gives a node of the form for the codes of its sides: 7 where these are no codes, or it is no such form.
+pub fn cell_in(table: &[u8; 245], form: u8, left: u8, right: u8) -> u8
+    ensures { λ r. ⌜ r ≡ cellIn (now (table .entry)) form left right ⌝ }
 {
     if form < 3 {
         return 7;
@@ -302,5 +310,13 @@ pub fn cell(form: u8, left: u8, right: u8) -> u8
     if 6 < right {
         return 7;
     }
-    CHART[(form - 3) as usize * 49 + left as usize * 7 + right as usize]
+    table[(form - 3) as usize * 49 + left as usize * 7 + right as usize]
+}
+
+// The code of a node of the form, from the codes of its sides: 7 where the two cannot occur.
+pub fn cell(form: u8, left: u8, right: u8) -> u8
+    ensures { λ r. ⌜ r ≡ cell form left right ⌝ }
+{
+    let t = table();
+    cell_in(&t, form, left, right)
 }
