@@ -6,6 +6,7 @@ use Prim.Native.Nat.{ℕ, _≤_, _<_}
 use native.Mathlib.Omega.{arith}
 use lib.ListN.{length, getD, set, length-set}
 use lib.Seq.{getD-set-same, getD-set-other}
+use Rattle.outcomes.specs.Cells.{cell}
 use Rattle.outcomes.specs.Families.{InFamily}
 use Rattle.outcomes.proofs.Members.{out-node-family, from-sides}
 use Rattle.process.specs.Process.{Process}
@@ -66,7 +67,7 @@ module _ (types b : List ℕ) (run : Runnable types b) (i : ℕ) (c : i < count 
     sides-differ e = apart b (parts-smaller types b run) (run .nodes-hold .once) (own-part b i c f on-left) (own-part b i c f on-right) itself (rw e itself)
 
     module _ (work : List ℕ) (holds : Holds types b (count b) work) (m : Marks) (here : Marked types b m i) where
-      from-cell : FromCell (form b i) (loaded work (left b i)) (loaded work (right b i)) (codeAt m i) (setAt m i)
+      from-cell : FromCell (cell (form b i)) (loaded work (left b i)) (loaded work (right b i)) (codeAt m i) (setAt m i)
       from-cell =
           let h = subst (λ (R : Process). InFamily (actionSets b) R (codeAt m i) (setAt m i)) (process-node types b (parts-smaller types b run) i c f) here in
           elim (out-node-family (actionSets b) (formOf (form b i)) (processAt types b (left b i)) (processAt types b (right b i)) h) [
@@ -78,8 +79,8 @@ module _ (types b : List ℕ) (run : Runnable types b) (i : ℕ) (c : i < count 
             }
           ]
 
-      module _ (long : length (m .codes) ≡ 63) (wide : length (m .sets) ≡ 63) (p : Parts) (answer : PartsOf (form b i) (codeAt m i) (loaded work (left b i)) (loaded work (right b i)) (setAt m i) p) where
-        makes : Makes (form b i) (codeAt m i) (loaded work (left b i)) (loaded work (right b i)) (setAt m i) (p .left) (p .right)
+      module _ (long : length (m .codes) ≡ 63) (wide : length (m .sets) ≡ 63) (p : Parts) (answer : PartsOf (cell (form b i)) (codeAt m i) (loaded work (left b i)) (loaded work (right b i)) (setAt m i) p) where
+        makes : Makes (cell (form b i)) (codeAt m i) (loaded work (left b i)) (loaded work (right b i)) (setAt m i) (p .left) (p .right)
         makes = answer .sound (answer .complete from-cell)
 
         codes-put : Put (m .codes) (left b i) (right b i) (p .left .code) (p .right .code)

@@ -2,6 +2,7 @@
 ghost use mathlib.Core.Path.{_≡_};
 ghost use Prim.Native.Nat.{_≤_};
 ghost use lib.ListN.{length};
+ghost use Rattle.outcomes.specs.Table.{chart};
 ghost use Rattle.plan.specs.PlanFile.{Runnable};
 ghost use Rattle.plan.specs.Reading.{readOf};
 ghost use Rattle.least.specs.Least.{FinalSet};
@@ -56,23 +57,31 @@ fn final_code(s: Summary, set: usize) -> u8
     6
 }
 
-// The bytes of a run that leaves the set, from the summaries in the work area.
-fn run_leaving(types: &[u8], nodes: &[u8], work: &[u8], root: Summary, set: usize) -> [u8; 126]
-    requires { ⌜ Leaving (now types) (now nodes) (now work) root set ⌝ }
+// The bytes of a run that leaves the set, by the chart from the summaries in the work area.
+fn run_leaving(
+    table: &[u8; 245],
+    types: &[u8],
+    nodes: &[u8],
+    work: &[u8],
+    root: Summary,
+    set: usize,
+) -> [u8; 126]
+    requires { ⌜ Leaving (now types) (now nodes) (now work) root set × (now table ≡ chart) ⌝ }
     ensures { λ r. ⌜ Leads (now (types .entry)) (now (nodes .entry)) set r ⌝ }
 {
     let code = final_code(root, set);
-    let marks = derivation::derive(types, nodes, work, code, set);
+    let marks = derivation::derive(table, types, nodes, work, code, set);
     let codes = marks.codes;
     shown::show(types, nodes, &codes)
 }
 
-// Judges a plan by its four bodies.
+// Judges a plan by its four bodies. The chart is fetched once, and lent.
 fn judge(types: &[u8], pairs: &[u8], nodes: &[u8], rule: &[u8], work: &mut [u8]) -> Finding
     requires { ⌜ Runnable (now types) (now nodes) × (workSize ≤ length (now work)) ⌝ }
     ensures { λ r. ⌜ JudgedPlan (now (types .entry)) (now (pairs .entry)) (now (nodes .entry)) (now (rule .entry)) (now (work .entry)) (now (work .exit)) (r .judgement) (r .run) ⌝ }
 {
-    sets::fill(types, nodes, work);
+    let table = outcomes::chart::table();
+    sets::fill(&table, types, nodes, work);
     let root = area::load(work, nodes.len() / 3 - 1);
     match least::find(rule, pairs, least::finals(root)) {
         Least::Nothing => Finding {
@@ -81,7 +90,7 @@ fn judge(types: &[u8], pairs: &[u8], nodes: &[u8], rule: &[u8], work: &mut [u8])
         },
         Least::Found(set) => Finding {
             judgement: Judgement::Violated(set),
-            run: run_leaving(types, nodes, work, root, set),
+            run: run_leaving(&table, types, nodes, work, root, set),
         },
     }
 }

@@ -1,4 +1,5 @@
 -- What the search for a node's parts promises, both ways: what it finds makes the set, and where it finds nothing there is nothing.
+-- `cells l r` is the code of the left code l and the right code r: in the outcome chart, for a node of a form, `cell form`.
 use mathlib.Core.Path.{_≡_}
 use mathlib.Core.Bool.{true, false}
 use mathlib.Core.List.{List}
@@ -6,7 +7,6 @@ use Prim.Native.Nat.{ℕ, _/_, _<_, _≤_}
 use lib.Bits.{bitOr}
 use Rattle.family.specs.Family.{In}
 use Rattle.product.specs.Product.{Union}
-use Rattle.outcomes.specs.Cells.{cell}
 use Rattle.summary.specs.declared.Summary.{Summary}
 use Rattle.summary.specs.Summary.{familyOf}
 use Rattle.summary.specs.Node.{FromCell}
@@ -40,8 +40,8 @@ SplitBy x y set split.Nowhere = ¬ Union x y set
 
 -- The marks l and r of the sides give a node the set under the code: document 01's "under a cell's code, every union of one left set under
 -- the cell's left code and one right set under its right code".
-pub record Makes (form code : ℕ) (a b : Summary) (set : ℕ) (l r : Mark) : Type 0 where
-  pub is-cell : cell form (l .code) (r .code) ≡ code
+pub record Makes (cells : ℕ → ℕ → ℕ) (code : ℕ) (a b : Summary) (set : ℕ) (l r : Mark) : Type 0 where
+  pub is-cell : cells (l .code) (r .code) ≡ code
   pub in-left : In (familyOf a (l .code)) (l .set)
   pub in-right : In (familyOf b (r .code)) (r .set)
   pub is : bitOr (l .set) (r .set) ≡ set
@@ -51,13 +51,13 @@ abbrev pub nowhere : Parts
 nowhere = record { found = false; left = record { code = 0; set = 0 }; right = record { code = 0; set = 0 } }
 
 -- The answer for one cell.
-pub record AtCell (form code : ℕ) (a b : Summary) (set l r : ℕ) (p : Parts) : Type 0 where
-  pub sound : p .found ≡ true → Makes form code a b set (p .left) (p .right)
-  pub complete : cell form l r ≡ code → Union (familyOf a l) (familyOf b r) set → p .found ≡ true
+pub record AtCell (cells : ℕ → ℕ → ℕ) (code : ℕ) (a b : Summary) (set l r : ℕ) (p : Parts) : Type 0 where
+  pub sound : p .found ≡ true → Makes cells code a b set (p .left) (p .right)
+  pub complete : cells l r ≡ code → Union (familyOf a l) (familyOf b r) set → p .found ≡ true
   pub else : p .found ≡ false → p ≡ nowhere
 
--- The answer for a node: parts are found just where the chart has the set for it under the code.
-pub record PartsOf (form code : ℕ) (a b : Summary) (set : ℕ) (p : Parts) : Type 0 where
-  pub sound : p .found ≡ true → Makes form code a b set (p .left) (p .right)
-  pub complete : FromCell form a b code set → p .found ≡ true
+-- The answer for a node: parts are found just where a cell gives it the set under the code.
+pub record PartsOf (cells : ℕ → ℕ → ℕ) (code : ℕ) (a b : Summary) (set : ℕ) (p : Parts) : Type 0 where
+  pub sound : p .found ≡ true → Makes cells code a b set (p .left) (p .right)
+  pub complete : FromCell cells a b code set → p .found ≡ true
   pub else : p .found ≡ false → p ≡ nowhere

@@ -1,7 +1,7 @@
-// The search for the parts of a node: a cell of the outcome chart, and a set of each side under the cell's codes, whose union is the
-// node's set.
+// The search for the parts of a node: a cell of a lent table, and a set of each side under the cell's codes, whose union is the node's set.
 ghost use mathlib.Core.Path.{_≡_};
 ghost use Prim.Native.Nat.{_<_, _+_, _-_, min};
+ghost use Rattle.outcomes.specs.Table.{cellIn};
 ghost use Rattle.parts.specs.Search.{After, RightOf, Beside, SplitBy, nowhere, AtCell, PartsOf};
 use summary::Summary;
 
@@ -116,11 +116,20 @@ fn none() -> Parts
 }
 
 // The parts by the cell of the codes l and r. The product tells whether there are any, so that no search is in vain.
-fn at_cell(form: u8, code: u8, a: Summary, b: Summary, set: usize, l: u8, r: u8) -> Parts
+fn at_cell(
+    table: &[u8; 245],
+    form: u8,
+    code: u8,
+    a: Summary,
+    b: Summary,
+    set: usize,
+    l: u8,
+    r: u8,
+) -> Parts
     requires { ⌜ (l < 7) × (r < 7) ⌝ }
-    ensures { λ p. ⌜ AtCell form code a b set l r p ⌝ }
+    ensures { λ p. ⌜ AtCell (cellIn (now (table .entry)) form) code a b set l r p ⌝ }
 {
-    if outcomes::chart::cell(form, l, r) != code {
+    if outcomes::chart::cell_in(table, form, l, r) != code {
         return none();
     }
     let x = summary::family_of(a, l);
@@ -142,12 +151,12 @@ fn at_cell(form: u8, code: u8, a: Summary, b: Summary, set: usize, l: u8, r: u8)
 }
 
 // The parts of a node of the form, which has the set under the code, from the summaries of its sides: those by the first cell that has any.
-pub fn parts_of(form: u8, code: u8, a: Summary, b: Summary, set: usize) -> Parts
-    ensures { λ p. ⌜ PartsOf form code a b set p ⌝ }
+pub fn parts_of(table: &[u8; 245], form: u8, code: u8, a: Summary, b: Summary, set: usize) -> Parts
+    ensures { λ p. ⌜ PartsOf (cellIn (now (table .entry)) form) code a b set p ⌝ }
 {
     let mut k = 0u8;
     while k < 49 {
-        let p = at_cell(form, code, a, b, set, k / 7, k % 7);
+        let p = at_cell(table, form, code, a, b, set, k / 7, k % 7);
         if p.found {
             return p;
         }

@@ -9,6 +9,7 @@ use lib.Dec.{T, eqb, ltb, ltb→lt}
 use borrow.Author.Tests.{eqb-true, eqb-false}
 use Rattle.family.proofs.Numbers.{at-number}
 use Rattle.process.specs.Process.{ok, fail, permits}
+use Rattle.outcomes.specs.Cells.{cell}
 use Rattle.nodes.specs.Nodes.{count, form, left, right}
 use Rattle.plan.specs.PlanFile.{Runnable}
 use Rattle.plan.specs.Tree.{leafKind, processAt}
@@ -45,7 +46,7 @@ module _ (types b : List ℕ) (r : Runnable types b) (n : ℕ) (c : n < count b)
       (computes .of-leaf (leafSet b) n k s set-small (rw (t, type-finishes (leafType types b n), type-fails (leafType types b n)) l))
 
   pub node-exact : (x y s : Summary) → 3 ≤ form b n → Exact (leafSet b) x (processAt types b (left b n)) → Exact (leafSet b) y (processAt types b (right b n))
-      → NodeSummary (form b n) x y s → Exact (leafSet b) s (processAt types b n)
+      → NodeSummary (cell (form b n)) x y s → Exact (leafSet b) s (processAt types b n)
   node-exact x y s f p q u =
       rw (process-node types b (parts-smaller types b r) n c f)
       (computes .of-node (leafSet b) (form b n) _ _ x y s f (r .nodes-hold .keep n c .known) p q u)

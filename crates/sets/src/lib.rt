@@ -5,6 +5,7 @@ ghost use lib.ListN.{length};
 ghost use Rattle.nodes.specs.Nodes.{count, form, left};
 ghost use Rattle.plan.specs.PlanFile.{Runnable};
 ghost use Rattle.plan.specs.Tree.{processAt};
+ghost use Rattle.outcomes.specs.Table.{chart};
 ghost use Rattle.summary.specs.Exact.{Exact};
 ghost use Rattle.sets.specs.PlanSets.{leafSet};
 ghost use Rattle.sets.specs.Fill.{Holds, Filled};
@@ -33,9 +34,9 @@ fn leaf(types: &[u8], nodes: &[u8], n: usize) -> Summary
     summary::leaf(set_of(nodes, n), kind != 2, kind != 1)
 }
 
-// The summary of node n, where those of the nodes before it are in the work area.
-fn summary_of(types: &[u8], nodes: &[u8], work: &[u8], n: usize) -> Summary
-    requires { ⌜ Runnable (now types) (now nodes) × (n < count (now nodes)) × Holds (now types) (now nodes) n (now work) ⌝ }
+// The summary of node n by the chart, where those of the nodes before it are in the work area.
+fn summary_of(table: &[u8; 245], types: &[u8], nodes: &[u8], work: &[u8], n: usize) -> Summary
+    requires { ⌜ Runnable (now types) (now nodes) × (n < count (now nodes)) × Holds (now types) (now nodes) n (now work) × (now table ≡ chart) ⌝ }
     ensures { λ r. ⌜ Exact (leafSet (now (nodes .entry))) r (processAt (now (types .entry)) (now (nodes .entry)) n) ⌝ }
 {
     let x = nodes::node_at(nodes, n);
@@ -43,18 +44,23 @@ fn summary_of(types: &[u8], nodes: &[u8], work: &[u8], n: usize) -> Summary
     if f < 3 {
         return leaf(types, nodes, n);
     }
-    summary::node(f, area::load(work, x.left), area::load(work, x.right))
+    summary::node(
+        table,
+        f,
+        area::load(work, x.left),
+        area::load(work, x.right),
+    )
 }
 
-// Puts the summary of every node into the work area.
-pub fn fill(types: &[u8], nodes: &[u8], work: &mut [u8])
-    requires { ⌜ Runnable (now types) (now nodes) × (768 * 63 ≤ length (now work)) ⌝ }
+// Puts the summary of every node by the chart into the work area.
+pub fn fill(table: &[u8; 245], types: &[u8], nodes: &[u8], work: &mut [u8])
+    requires { ⌜ Runnable (now types) (now nodes) × (768 * 63 ≤ length (now work)) × (now table ≡ chart) ⌝ }
     ensures { λ r. ⌜ Filled (now (types .entry)) (now (nodes .entry)) (now (work .entry)) (now (work .exit)) ⌝ }
 {
     let n = nodes.len() / 3;
     let mut i = 0;
     while i < n {
-        let s = summary_of(types, nodes, work, i);
+        let s = summary_of(table, types, nodes, work, i);
         area::store(work, i, s);
         i += 1;
     }

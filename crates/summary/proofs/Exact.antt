@@ -93,7 +93,7 @@ module _ (single : ℕ → ℕ) (n : ℕ) (k : Kind) where
   of-leaf s l h code t = ((λ on. in-list (h .sound code t on)), λ m. let o = out-list m in h .complete code t (small-set l o) o)
 
 -- a node
-module _ (single : ℕ → ℕ) (form : ℕ) (P Q : Process) (a b s : Summary) (h : 3 ≤ form) (l : form ≤ 7) (p : Exact single a P) (q : Exact single b Q) (under : NodeSummary form a b s) where
+module _ (single : ℕ → ℕ) (form : ℕ) (P Q : Process) (a b s : Summary) (h : 3 ≤ form) (l : form ≤ 7) (p : Exact single a P) (q : Exact single b Q) (under : NodeSummary (cell form) a b s) where
   none-listed : InFamily (numbers single) (node (formOf form) P Q) 0 0
   none-listed =
       let z = empty-set .complete (omega arith) in

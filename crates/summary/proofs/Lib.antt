@@ -1,5 +1,4 @@
 pub mod Codes
 pub mod Leaves
-pub mod Rows
 pub mod Sides
 pub mod Exact

@@ -9,77 +9,76 @@ use borrow.Author.Count.{below-more}
 use lib.Bits.{bitOr}
 use Rattle.family.specs.Family.{In, Empty, Joined}
 use Rattle.family.proofs.Numbers.{below-or-above}
-use Rattle.outcomes.specs.Cells.{cell}
 use Rattle.summary.specs.declared.Summary.{Summary}
 use Rattle.summary.specs.Summary.{familyOf}
-use Rattle.summary.specs.Node.{FromCell, Under, FromRight, Gathered}
-use Rattle.summary.specs.Row.{Grown, LeftAdded}
+use Rattle.summary.specs.Node.{FromCell, Under}
+use Rattle.summary.specs.Joining.{FromRight, Gathered, Grown, LeftAdded}
 use Rattle.summary.proofs.Codes.{beyond}
 
 -- the right codes below n
-pub record Gathering (form left code : ℕ) (b : Summary) (n : ℕ) (g : List ℕ) : Type 0 where
-  pub sound : (t : ℕ) → In g t → FromRight form left code b t
-  pub complete : (right : ℕ) → right < n → cell form left right ≡ code → (t : ℕ) → In (familyOf b right) t → In g t
+pub record Gathering (row : ℕ → ℕ) (code : ℕ) (b : Summary) (n : ℕ) (g : List ℕ) : Type 0 where
+  pub sound : (t : ℕ) → In g t → FromRight row code b t
+  pub complete : (right : ℕ) → right < n → row right ≡ code → (t : ℕ) → In (familyOf b right) t → In g t
 
-module _ (form left code : ℕ) (b : Summary) where
-  pub gathering-none : (g : List ℕ) → Empty g → Gathering form left code b 0 g
+module _ (row : ℕ → ℕ) (code : ℕ) (b : Summary) where
+  pub gathering-none : (g : List ℕ) → Empty g → Gathering row code b 0 g
   gathering-none g none = record { sound = λ t on. absurd (none t on); complete = λ right l. absurd (omega arith) }
 
-  module _ (n : ℕ) (g : List ℕ) (p : Gathering form left code b n g) where
-    pub gathering-more : (j : List ℕ) → cell form left n ≡ code → Joined g (familyOf b n) j → Gathering form left code b (n + 1) j
+  module _ (n : ℕ) (g : List ℕ) (p : Gathering row code b n g) where
+    pub gathering-more : (j : List ℕ) → row n ≡ code → Joined g (familyOf b n) j → Gathering row code b (n + 1) j
     gathering-more j e joined = record {
       sound = λ t on. elim (joined .sound t on) [ inl old ↦ p .sound t old | inr new ↦ record { right = n; is-cell = e; has = new } ];
-      complete = below-more (λ right. cell form left right ≡ code → (t : ℕ) → In (familyOf b right) t → In j t) n (λ right l c t on. joined .left t (p .complete right l c t on)) (λ c. joined .right);
+      complete = below-more (λ right. row right ≡ code → (t : ℕ) → In (familyOf b right) t → In j t) n (λ right l c t on. joined .left t (p .complete right l c t on)) (λ c. joined .right);
     }
 
-    pub gathering-skip : ¬ (cell form left n ≡ code) → Gathering form left code b (n + 1) g
+    pub gathering-skip : ¬ (row n ≡ code) → Gathering row code b (n + 1) g
     gathering-skip d = record {
       sound = p .sound;
-      complete = below-more (λ right. cell form left right ≡ code → (t : ℕ) → In (familyOf b right) t → In g t) n (p .complete) (λ c. absurd (d c));
+      complete = below-more (λ right. row right ≡ code → (t : ℕ) → In (familyOf b right) t → In g t) n (p .complete) (λ c. absurd (d c));
     }
 
-  pub gathered : (g : List ℕ) → Gathering form left code b 7 g → Gathered form left code b g
+  pub gathered : (g : List ℕ) → Gathering row code b 7 g → Gathered row code b g
   gathered g p = record {
     sound = p .sound;
     complete = λ right t c on. elim (below-or-above right 7) [ inl l ↦ p .complete right l c t on | inr l ↦ absurd (beyond b right l t on) ];
   }
 
 -- one left code: its sets with all that is gathered beside it; nothing where it has no sets
-module _ (form code : ℕ) (a b : Summary) (left : ℕ) (u : List ℕ) where
-  module _ (g j : List ℕ) (right-sets : Gathered form left code b g) (grown : Grown u (familyOf a left) g j) where
-    from-unions : (t : ℕ) → In (grown .unions) t → FromCell form a b code t
+module _ (cells : ℕ → ℕ → ℕ) (code : ℕ) (a b : Summary) (left : ℕ) (u : List ℕ) where
+  module _ (g j : List ℕ) (right-sets : Gathered (cells left) code b g) (grown : Grown u (familyOf a left) g j) where
+    from-unions : (t : ℕ) → In (grown .unions) t → FromCell cells a b code t
     from-unions t on =
         let v = grown .product .sound t on in
         let r = right-sets .sound (v .y) (v .in-right) in
         record { left = left; right = r .right; is-cell = r .is-cell; union = record { x = v .x; y = v .y; in-left = v .in-left; in-right = r .has; is = v .is } }
 
-    pub left-added : LeftAdded form code a b left u j
+    pub left-added : LeftAdded cells code a b left u j
     left-added = record {
       sound = λ t on. elim (grown .joined .sound t on) [ inl old ↦ inl old | inr new ↦ inr (from-unions t new) ];
       keeps = grown .joined .left;
       complete = λ right x y c i k. grown .joined .right (bitOr x y) (grown .product .complete x y i (right-sets .complete right y c k));
     }
 
-  pub left-empty : Empty (familyOf a left) → LeftAdded form code a b left u u
+  pub left-empty : Empty (familyOf a left) → LeftAdded cells code a b left u u
   left-empty none = record { sound = λ t on. inl on; keeps = λ t on. on; complete = λ right x y c i. absurd (none x i) }
 
 -- the left codes below n
-pub record Joining (form code : ℕ) (a b : Summary) (n : ℕ) (u : List ℕ) : Type 0 where
-  pub sound : (t : ℕ) → In u t → FromCell form a b code t
-  pub complete : (left : ℕ) → left < n → (right x y : ℕ) → cell form left right ≡ code → In (familyOf a left) x → In (familyOf b right) y → In u (bitOr x y)
+pub record Joining (cells : ℕ → ℕ → ℕ) (code : ℕ) (a b : Summary) (n : ℕ) (u : List ℕ) : Type 0 where
+  pub sound : (t : ℕ) → In u t → FromCell cells a b code t
+  pub complete : (left : ℕ) → left < n → (right x y : ℕ) → cells left right ≡ code → In (familyOf a left) x → In (familyOf b right) y → In u (bitOr x y)
 
-module _ (form code : ℕ) (a b : Summary) where
-  pub joining-none : (u : List ℕ) → Empty u → Joining form code a b 0 u
+module _ (cells : ℕ → ℕ → ℕ) (code : ℕ) (a b : Summary) where
+  pub joining-none : (u : List ℕ) → Empty u → Joining cells code a b 0 u
   joining-none u none = record { sound = λ t on. absurd (none t on); complete = λ left l. absurd (omega arith) }
 
-  pub joining-more : (n : ℕ) (u j : List ℕ) → Joining form code a b n u → LeftAdded form code a b n u j → Joining form code a b (n + 1) j
+  pub joining-more : (n : ℕ) (u j : List ℕ) → Joining cells code a b n u → LeftAdded cells code a b n u j → Joining cells code a b (n + 1) j
   joining-more n u j q added = record {
     sound = λ t on. elim (added .sound t on) [ inl old ↦ q .sound t old | inr new ↦ new ];
-    complete = below-more (λ left. (right x y : ℕ) → cell form left right ≡ code → In (familyOf a left) x → In (familyOf b right) y → In j (bitOr x y)) n
+    complete = below-more (λ left. (right x y : ℕ) → cells left right ≡ code → In (familyOf a left) x → In (familyOf b right) y → In j (bitOr x y)) n
         (λ left l right x y c i k. added .keeps (bitOr x y) (q .complete left l right x y c i k)) (added .complete);
   }
 
-  pub joined-all : (u : List ℕ) → Joining form code a b 7 u → Under form code a b u
+  pub joined-all : (u : List ℕ) → Joining cells code a b 7 u → Under cells code a b u
   joined-all u q = record {
     sound = q .sound;
     complete = λ left right x y c i k. elim (below-or-above left 7) [ inl l ↦ q .complete left l right x y c i k | inr l ↦ absurd (beyond a left l x i) ];

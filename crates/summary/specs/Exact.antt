@@ -5,6 +5,7 @@ use Prim.Native.Nat.{ℕ, _<_, _≤_}
 use Rattle.family.specs.Family.{In}
 use Rattle.process.specs.Process.{ok, fail, Kind, permits, Process, leaf, node}
 use Rattle.process.specs.Forms.{formOf}
+use Rattle.outcomes.specs.Cells.{cell}
 use Rattle.outcomes.specs.Sets.{numbers}
 use Rattle.outcomes.specs.Families.{InFamily}
 use Rattle.summary.specs.declared.Summary.{Summary}
@@ -18,5 +19,5 @@ Exact single s P = (code t : ℕ) → In (familyOf s code) t ↔ InFamily (numbe
 pub record Computes : Type 0 where
   -- A leaf's summary, of a leaf whose set is an action set.
   pub of-leaf : (single : ℕ → ℕ) (n : ℕ) (k : Kind) (s : Summary) → single n < 1024 → LeafSummary (single n) (permits k ok) (permits k fail) s → Exact single s (leaf n k)
-  -- A node's summary, of a form 3 to 7, from the summaries of its sides.
-  pub of-node : (single : ℕ → ℕ) (form : ℕ) (P Q : Process) (a b s : Summary) → 3 ≤ form → form ≤ 7 → Exact single a P → Exact single b Q → NodeSummary form a b s → Exact single s (node (formOf form) P Q)
+  -- A node's summary by the chart, of a form 3 to 7, from the summaries of its sides.
+  pub of-node : (single : ℕ → ℕ) (form : ℕ) (P Q : Process) (a b s : Summary) → 3 ≤ form → form ≤ 7 → Exact single a P → Exact single b Q → NodeSummary (cell form) a b s → Exact single s (node (formOf form) P Q)

@@ -1,4 +1,4 @@
 pub mod Summary
 pub mod Node
-pub mod Row
+pub mod Joining
 pub mod Exact

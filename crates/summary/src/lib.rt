@@ -1,12 +1,11 @@
 // A node's summary: for each of the codes 1 to 6 the family of the action sets that the outcome chart gives it. The summary of a leaf, and
 // of a node from those of its two sides.
 ghost use mathlib.Core.Path.{_≡_};
-ghost use Prim.Native.Nat.{ℕ, _<_};
+ghost use Prim.Native.Nat.{_<_};
+ghost use Rattle.outcomes.specs.Table.{cellIn};
 ghost use Rattle.summary.specs.Summary.{familyOf, Only, LeafSummary};
-ghost use Rattle.summary.specs.Node.{Gathered, Under, NodeSummary};
-ghost use Rattle.summary.specs.Row.{Row, Rows, Grown, LeftAdded};
-
-mod row;
+ghost use Rattle.summary.specs.Node.{Under, NodeSummary};
+ghost use Rattle.summary.specs.Joining.{Gathered, Grown, LeftAdded};
 
 // The families of the codes 1 to 6. Code 0, not run, has the empty set alone.
 pub struct Summary {
@@ -66,14 +65,14 @@ pub fn leaf(set: usize, finishes: bool, fails: bool) -> Summary
     }
 }
 
-// The sets of the right side under the right codes that give this code beside a left code, whose row it is.
-fn gather(row: u64, code: u64, b: Summary) -> [u64; 16]
-    ensures { λ g. ⌜ ((form left : ℕ) → Row form left row → Gathered form left code b g) ⌝ }
+// The sets of the right side under the right codes that give this code beside a left code, by the table's cells.
+fn gather(table: &[u8; 245], form: u8, left: u8, code: u8, b: Summary) -> [u64; 16]
+    ensures { λ g. ⌜ Gathered (cellIn (now (table .entry)) form left) code b g ⌝ }
 {
     let mut g = family::empty();
     let mut right = 0u8;
     while right < 7 {
-        if (row >> (right as usize * 4)) % 16 == code {
+        if outcomes::chart::cell_in(table, form, left, right) == code {
             let f = family_of(b, right);
             let j = family::join(g, f);
             g = j;
@@ -94,45 +93,51 @@ fn grown(u: [u64; 16], x: [u64; 16], y: [u64; 16]) -> [u64; 16]
     family::join(u, p)
 }
 
-// The family u, and the sets of a node under a code by the cells of one left code, whose row it is. Where the left side has no sets,
-// nothing is gathered.
-fn with_left(row: u64, code: u64, a: Summary, b: Summary, left: u8, u: [u64; 16]) -> [u64; 16]
+// The family u, and the sets of a node under a code by the cells of one left code. Where the left side has no sets, nothing is gathered.
+fn with_left(
+    table: &[u8; 245],
+    form: u8,
+    code: u8,
+    a: Summary,
+    b: Summary,
+    left: u8,
+    u: [u64; 16],
+) -> [u64; 16]
     requires { ⌜ left < 7 ⌝ }
-    ensures { λ r. ⌜ ((form : ℕ) → Row form left row → LeftAdded form code a b left u r) ⌝ }
+    ensures { λ r. ⌜ LeftAdded (cellIn (now (table .entry)) form) code a b left u r ⌝ }
 {
     let x = family_of(a, left);
     if family::is_empty(x) {
         return u;
     }
-    let y = gather(row, code, b);
+    let y = gather(table, form, left, code, b);
     grown(u, x, y)
 }
 
-// The sets of a node under a code. The rows are those of its form.
-fn under(rows: [u64; 7], code: u64, a: Summary, b: Summary) -> [u64; 16]
-    ensures { λ u. ⌜ ((form : ℕ) → Rows form rows → Under form code a b u) ⌝ }
+// The sets of a node under a code.
+fn under(table: &[u8; 245], form: u8, code: u8, a: Summary, b: Summary) -> [u64; 16]
+    ensures { λ u. ⌜ Under (cellIn (now (table .entry)) form) code a b u ⌝ }
 {
     let mut u = family::empty();
     let mut left = 0u8;
     while left < 7 {
-        let n = with_left(rows[left as usize], code, a, b, left, u);
+        let n = with_left(table, form, code, a, b, left, u);
         u = n;
         left += 1;
     }
     u
 }
 
-// A node's summary, from its form and the summaries of its sides.
-pub fn node(form: u8, a: Summary, b: Summary) -> Summary
-    ensures { λ r. ⌜ NodeSummary form a b r ⌝ }
+// A node's summary, from its form and the summaries of its sides, by a lent table of cells.
+pub fn node(table: &[u8; 245], form: u8, a: Summary, b: Summary) -> Summary
+    ensures { λ r. ⌜ NodeSummary (cellIn (now (table .entry)) form) a b r ⌝ }
 {
-    let rows = row::rows_of(form);
     Summary {
-        s1: under(rows, 1, a, b),
-        s2: under(rows, 2, a, b),
-        s3: under(rows, 3, a, b),
-        s4: under(rows, 4, a, b),
-        s5: under(rows, 5, a, b),
-        s6: under(rows, 6, a, b),
+        s1: under(table, form, 1, a, b),
+        s2: under(table, form, 2, a, b),
+        s3: under(table, form, 3, a, b),
+        s4: under(table, form, 4, a, b),
+        s5: under(table, form, 5, a, b),
+        s6: under(table, form, 6, a, b),
     }
 }

@@ -25,10 +25,10 @@ clear i v k d = getD-set-other zeros i k v 0 d ∙ zero (below-or-above k 63)
     zero (inr l) = List·getD-eq-default zeros 0 {n = k} l
 
 abbrev Inv-loop : tie.InvT-loop
-Inv-loop types nodes work code set i₀ m₀ i m = Passed types nodes code set i m
+Inv-loop table types nodes work code set i₀ m₀ i m = Passed types nodes code set i m
 
 abbrev μ-loop : tie.MeasureT-loop
-μ-loop types nodes work code set i₀ m₀ i m = i
+μ-loop table types nodes work code set i₀ m₀ i m = i
 
 sub-codes : tie.Need-sub-codes Inv-loop μ-loop
 sub-codes c = search needs
@@ -71,7 +71,7 @@ step-requires c κs =
     let s = l .before .before .before .before in
     let a = s .args in
     let h : l .loop .i - 1 < count (a .nodes .now) = omega (arith, l .loop .inv .most) in
-    (s .pre .0, s .pre .1, h, turn (a .types .now) (a .nodes .now) (s .pre .0) (a .code) (a .set) (l .loop .i - 1) (l .loop .m) h (last-passed c))
+    (s .pre .0, s .pre .1, h, turn (a .types .now) (a .nodes .now) (s .pre .0) (a .code) (a .set) (l .loop .i - 1) (l .loop .m) h (last-passed c), s .pre .3)
 
 loop-less : tie.Need-loop-less Inv-loop μ-loop
 loop-less c = omega arith

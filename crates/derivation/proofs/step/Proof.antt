@@ -2,6 +2,8 @@
 use mathlib.Core.Path.{_≡_}
 use Prim.Native.Nat.{_<_}
 use lib.ListN.{length, length-map}
+use Rattle.outcomes.specs.Cells.{cell}
+use Rattle.outcomes.proofs.Table.{cell-in-chart}
 use Rattle.nodes.specs.Nodes.{form, left, right}
 use Rattle.state.proofs.Sides.{left-small, right-small}
 use Rattle.area.specs.Area.{loaded}
@@ -70,10 +72,10 @@ array-write-sets-2 c = right-bound (c .before .before .before .before .before .b
 
 -- what holding the marks tells of its two arrays
 codes-long : (s : tie.Start) → length (s .args .m .codes) ≡ 63
-codes-long s = simp length-map at (s .good .1 .1 .1 .1 .0 .1 .1 .0 .1 .0 .1)
+codes-long s = simp length-map at (s .good .1 .1 .1 .1 .1 .0 .1 .1 .0 .1 .0 .1)
 
 sets-long : (s : tie.Start) → length (s .args .m .sets) ≡ 63
-sets-long s = simp length-map at (s .good .1 .1 .1 .1 .0 .1 .1 .1 .0 .1 .0 .1)
+sets-long s = simp length-map at (s .good .1 .1 .1 .1 .1 .0 .1 .1 .1 .0 .1 .0 .1)
 
 returns-2 : tie.Need-returns-2
 returns-2 c =
@@ -87,8 +89,8 @@ returns-2 c =
     let i = s .args .i in
     let m = s .args .m in
     let is = n .node-at .ensures in
-    let answer : PartsOf (form b i) (codeAt m i) (loaded work (left b i)) (loaded work (right b i)) (setAt m i) (c .parts-of .result) =
-    rw (← rw is at (x .load .ensures), ← rw is at (y .load2 .ensures)) (rw is at (c .parts-of .ensures)) in
+    let answer : PartsOf (cell (form b i)) (codeAt m i) (loaded work (left b i)) (loaded work (right b i)) (setAt m i) (c .parts-of .result) =
+    rw (← rw is at (x .load .ensures), ← rw is at (y .load2 .ensures)) (rw (is, s .pre .4, cell-in-chart) at (c .parts-of .ensures)) in
     rw is
     (step-parts (s .args .types .now) b (s .pre .0) i (s .pre .2) (rw is at (e .if1 .left)) work (s .pre .1) m (s .pre .3) (codes-long s) (sets-long s) (c .parts-of .result) answer)
 

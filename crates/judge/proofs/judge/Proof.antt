@@ -7,6 +7,9 @@ use Rattle.judge.proofs.Judging.{leaving, judged-plan}
 use Rattle.judge.proofs.judge.Statement.{statement}
 use Rattle.judge.proofs.judge.Tie as tie
 
+table-requires : tie.Need-table-requires
+table-requires c κs = search needs
+
 fill-requires : tie.Need-fill-requires
 fill-requires c κs = search needs
 
@@ -30,15 +33,18 @@ enum-known-set c = search needs
 
 run-leaving-requires : tie.Need-run-leaving-requires
 run-leaving-requires c κs =
-    let d = c .before .before in
+    let d = c .before .before .before in
     let find = d .before .before in
     let finals = find .before in
     let load = finals .before in
     let fill = load .before .before .before .before in
-    let s = fill .before .before .before .before .before .before .before in
+    let s = fill .before .before .before .before .before .before .before .before .before in
     let a = s .args in
-    leaving (a .types .now) (a .pairs .now) (a .nodes .now) (a .rule .now) (a .work .now) _ (s .pre .0) (fill .fill .ensures) _ (load .load .ensures) _ (finals .finals .ensures)
-    _ _ (d .set .given .1) (find .find .ensures)
+    let table = fill .before .before .before .table .ensures in (
+      leaving (a .types .now) (a .pairs .now) (a .nodes .now) (a .rule .now) (a .work .now) _ (s .pre .0) (fill .fill .ensures) _ (load .load .ensures) _ (finals .finals .ensures)
+          _ _ (d .set .given .1) (find .find .ensures),
+      table,
+    )
 
 same-length : tie.Need-same-length
 same-length c = search needs
@@ -49,7 +55,7 @@ returns c =
     let finals = find .before in
     let load = finals .before in
     let fill = load .before .before .before .before in
-    let s = fill .before .before .before .before .before .before .before in
+    let s = fill .before .before .before .before .before .before .before .before .before in
     let a = s .args in
     judged-plan (a .types .now) (a .pairs .now) (a .nodes .now) (a .rule .now) (a .work .now) _ (s .pre .0) (fill .fill .ensures) _ (load .load .ensures) _ (finals .finals .ensures)
     _ Nothing _ (c .enum-told .given .1) (find .find .ensures) refl
@@ -59,12 +65,12 @@ same-length-2 c = search needs
 
 returns-2 : tie.Need-returns-2
 returns-2 c =
-    let d = c .before .before .before in
+    let d = c .before .before .before .before in
     let find = d .before .before in
     let finals = find .before in
     let load = finals .before in
     let fill = load .before .before .before .before in
-    let s = fill .before .before .before .before .before .before .before in
+    let s = fill .before .before .before .before .before .before .before .before .before in
     let a = s .args in
     judged-plan (a .types .now) (a .pairs .now) (a .nodes .now) (a .rule .now) (a .work .now) _ (s .pre .0) (fill .fill .ensures) _ (load .load .ensures) _ (finals .finals .ensures)
     _ (Found _) _ (d .set .given .1) (find .find .ensures) (c .run-leaving .ensures)
@@ -73,6 +79,7 @@ pub judge-spec : {M : Type 1} → statement M
 judge-spec =
     tie.close
     (tie.spec
+    table-requires
     fill-requires
     sub-load
     load-requires

@@ -3,6 +3,7 @@
 use mathlib.Core.Path.{refl, sym, _∙_}
 use mathlib.Core.Bool.{true≢false}
 use borrow.Author.Tests.{eqb-false, not-true}
+use Rattle.outcomes.specs.Table.{cellIn}
 use Rattle.product.specs.Product.{Union, Product}
 use Rattle.summary.specs.Summary.{familyOf}
 use Rattle.parts.proofs.Cells.{cell-none}
@@ -10,8 +11,8 @@ use borrow.Author.Needs.{needs}
 use Rattle.parts.proofs.at_cell.Statement.{statement}
 use Rattle.parts.proofs.at_cell.Tie as tie
 
-cell-requires : tie.Need-cell-requires
-cell-requires c κs = search needs
+cell-in-requires : tie.Need-cell-in-requires
+cell-in-requires c κs = search needs
 
 none-requires : tie.Need-none-requires
 none-requires c κs = search needs
@@ -20,7 +21,7 @@ returns : tie.Need-returns
 returns c =
     let t = c .before .before in
     let a = t .before .args in
-    cell-none (a .form) (a .code) (a .a) (a .b) (a .set) (a .l) (a .r) (c .none .result) (c .none .ensures) (λ h. c .before .if1 .taken (t .cell .ensures ∙ h .is-cell))
+    cell-none (cellIn (a .table .now) (a .form)) (a .code) (a .a) (a .b) (a .set) (a .l) (a .r) (c .none .result) (c .none .ensures) (λ h. c .before .if1 .taken (t .cell-in .ensures ∙ h .is-cell))
 
 family-of-requires : tie.Need-family-of-requires
 family-of-requires c κs = search needs
@@ -45,7 +46,7 @@ returns-2 c =
     let x = y .before in
     let a = x .before .before .before .args in
     let unions : Product (familyOf (a .a) (a .l)) (familyOf (a .b) (a .r)) (p .product .result) = rw (← x .family-of .ensures, ← y .family-of2 .ensures) (p .product .ensures) in
-    cell-none (a .form) (a .code) (a .a) (a .b) (a .set) (a .l) (a .r) (c .none2 .result) (c .none2 .ensures)
+    cell-none (cellIn (a .table .now) (a .form)) (a .code) (a .a) (a .b) (a .set) (a .l) (a .r) (c .none2 .result) (c .none2 .ensures)
     (λ h.
     let u = h .union in
     eqb-false _ _ (sym (m .member .ensures) ∙ not-true _ (c .before .if2 .taken)) (rw (u .is) at (unions .complete (u .x) (u .y) (u .in-left) (u .in-right))))
@@ -71,7 +72,7 @@ returns-3 c =
     let found = rw (c .before .left .given .1) at (s .split-by .ensures) in
     record {
       sound = λ q. record {
-        is-cell = sym (e .before .cell .ensures) ∙ e .if1 .left;
+        is-cell = rw (e .before .cell-in .ensures) at (e .if1 .left);
         in-left = rw (← x .family-of .ensures) (found .0);
         in-right = rw (← y .family-of2 .ensures) (found .1);
         is = found .2;
@@ -87,13 +88,13 @@ returns-4 c =
     let x = y .before in
     let a = x .before .before .before .args in
     let nothing : ¬ Union (familyOf (a .a) (a .l)) (familyOf (a .b) (a .r)) (a .set) = rw (← x .family-of .ensures, ← y .family-of2 .ensures) (rw (c .before .enum-told .given .1) at (s .split-by .ensures)) in
-    cell-none (a .form) (a .code) (a .a) (a .b) (a .set) (a .l) (a .r) (c .none3 .result) (c .none3 .ensures) (λ h. nothing (h .union))
+    cell-none (cellIn (a .table .now) (a .form)) (a .code) (a .a) (a .b) (a .set) (a .l) (a .r) (c .none3 .result) (c .none3 .ensures) (λ h. nothing (h .union))
 
 pub at-cell-spec : {M : Type 1} → statement M
 at-cell-spec =
     tie.close
     (tie.spec
-    cell-requires
+    cell-in-requires
     none-requires
     returns
     family-of-requires

@@ -10,10 +10,10 @@ use Rattle.sets.proofs.fill.Statement.{statement}
 use Rattle.sets.proofs.fill.Tie as tie
 
 abbrev Inv-loop : tie.InvT-loop
-Inv-loop types nodes work₀ n i₀ work i = (n ≡ count nodes) × Filling types nodes work₀ i work
+Inv-loop table types nodes work₀ n i₀ work i = (n ≡ count nodes) × Filling types nodes work₀ i work
 
 abbrev μ-loop : tie.MeasureT-loop
-μ-loop types nodes work₀ n i₀ work i = n - i
+μ-loop table types nodes work₀ n i₀ work i = n - i
 
 loop-holds : tie.Need-loop-holds Inv-loop μ-loop
 loop-holds c = (refl, filling-none _ _ _)
@@ -21,7 +21,7 @@ loop-holds c = (refl, filling-none _ _ _)
 summary-of-requires : tie.Need-summary-of-requires Inv-loop μ-loop
 summary-of-requires c κs =
     let l = c .before .before in
-    (l .before .before .before .before .pre .0, omega arith, l .loop .inv .1 .holds)
+    (l .before .before .before .before .pre .0, omega arith, l .loop .inv .1 .holds, l .before .before .before .before .pre .2)
 
 store-requires : tie.Need-store-requires Inv-loop μ-loop
 store-requires c κs = search needs

@@ -3,6 +3,7 @@ use mathlib.Core.Path.{_≡_, sym}
 use Prim.Native.Nat.{_≤_}
 use native.Mathlib.Omega.{arith}
 use borrow.Author.Needs.{needs}
+use Rattle.outcomes.proofs.Table.{cell-in-chart}
 use Rattle.nodes.specs.Nodes.{form, left, right}
 use Rattle.plan.proofs.Tree.{parts-smaller}
 use Rattle.area.specs.Area.{loaded}
@@ -44,7 +45,7 @@ returns-2 c =
     let (l, r) = parts-smaller types b (s .pre .0) n (s .pre .1) f in
     let x : loaded work (left b n) ≡ c .before .before .load .result = sym (rw e at (c .before .before .load .ensures)) in
     let y : loaded work (right b n) ≡ c .before .load2 .result = sym (rw e at (c .before .load2 .ensures)) in
-    node-exact types b (s .pre .0) n (s .pre .1) _ _ (c .node .result) f (s .pre .2 (left b n) l) (s .pre .2 (right b n) r) (rw (x, y) (rw e at (c .node .ensures)))
+    node-exact types b (s .pre .0) n (s .pre .1) _ _ (c .node .result) f (s .pre .2 (left b n) l) (s .pre .2 (right b n) r) (rw (x, y) (rw (e, s .pre .3, cell-in-chart) at (c .node .ensures)))
 
 pub summary-of-spec : {M : Type 1} → statement M
 summary-of-spec =

@@ -1,12 +1,10 @@
 -- `summary::node` meets its contract: each code's family.
+use Rattle.outcomes.specs.Table.{cellIn}
 use Rattle.summary.specs.Node.{Under}
 use Rattle.summary.proofs.Codes.{each-code}
 use borrow.Author.Needs.{needs}
 use Rattle.summary.proofs.node.Statement.{statement}
 use Rattle.summary.proofs.node.Tie as tie
-
-rows-of-requires : tie.Need-rows-of-requires
-rows-of-requires c κs = search needs
 
 under-requires : tie.Need-under-requires
 under-requires c κs = search needs
@@ -28,16 +26,14 @@ under-requires-6 c κs = search needs
 
 returns : tie.Need-returns
 returns c =
-    let a = c .before .before .before .before .before .before .before .args in
-    let rows = c .before .before .before .before .before .before .rows-of .ensures in
-    each-code (λ code u. Under (a .form) code (a .a) (a .b) u) _ (c .before .before .before .before .before .under .ensures (a .form) rows) (c .before .before .before .before .under2 .ensures (a .form) rows)
-    (c .before .before .before .under3 .ensures (a .form) rows) (c .before .before .under4 .ensures (a .form) rows) (c .before .under5 .ensures (a .form) rows) (c .under6 .ensures (a .form) rows)
+    let a = c .before .before .before .before .before .before .args in
+    each-code (λ code u. Under (cellIn (a .table .now) (a .form)) code (a .a) (a .b) u) _ (c .before .before .before .before .before .under .ensures) (c .before .before .before .before .under2 .ensures)
+    (c .before .before .before .under3 .ensures) (c .before .before .under4 .ensures) (c .before .under5 .ensures) (c .under6 .ensures)
 
 pub node-spec : {M : Type 1} → statement M
 node-spec =
     tie.close
     (tie.spec
-    rows-of-requires
     under-requires
     under-requires-2
     under-requires-3

@@ -1,7 +1,7 @@
 -- `summary::under` meets its contract: the left codes passed are joined in (`Joining`).
 use mathlib.Core.Path.{_≡_, subst}
 use Prim.Native.Nat.{ℕ, _-_, _≤_}
-use Rattle.summary.specs.Row.{Rows}
+use Rattle.outcomes.specs.Table.{cellIn}
 use Rattle.summary.proofs.Sides.{Joining, joining-none, joining-more, joined-all}
 use borrow.Author.Needs.{needs}
 use native.Mathlib.Omega.{arith}
@@ -9,25 +9,16 @@ use Rattle.summary.proofs.under.Statement.{statement}
 use Rattle.summary.proofs.under.Tie as tie
 
 abbrev Inv-loop : tie.InvT-loop
-Inv-loop code a b rows u₀ left₀ u left = (left ≤ 7) × ((form : ℕ) → Rows form rows → Joining form code a b left u)
+Inv-loop table form code a b u₀ left₀ u left = (left ≤ 7) × Joining (cellIn table form) code a b left u
 
 abbrev μ-loop : tie.MeasureT-loop
-μ-loop code a b rows u₀ left₀ u left = 7 - left
+μ-loop table form code a b u₀ left₀ u left = 7 - left
 
 empty-requires : tie.Need-empty-requires Inv-loop μ-loop
 empty-requires c κs = search needs
 
 loop-holds : tie.Need-loop-holds Inv-loop μ-loop
-loop-holds c = (omega arith, λ form rows. joining-none _ _ _ _ (c .empty .result) (c .empty .ensures))
-
-cast-with-left : tie.Need-cast-with-left Inv-loop μ-loop
-cast-with-left c = search needs
-
-mul-with-left : tie.Need-mul-with-left Inv-loop μ-loop
-mul-with-left c = search needs
-
-array-read-with-left : tie.Need-array-read-with-left Inv-loop μ-loop
-array-read-with-left c = search needs
+loop-holds c = (omega arith, joining-none _ _ _ _ (c .empty .result) (c .empty .ensures))
 
 with-left-requires : tie.Need-with-left-requires Inv-loop μ-loop
 with-left-requires c κs = search needs
@@ -43,15 +34,16 @@ loop-again c =
     let l = c .before .before .loop in
     let a = c .before .before .before .before .args in (
       omega arith,
-      λ form rows. joining-more form (a .code) (a .a) (a .b) (l .left) (l .u) (c .with-left .result) (l .inv .1 form rows) (c .with-left .ensures form (rows (l .left) (omega arith))),
+      joining-more (cellIn (a .table .now) (a .form)) (a .code) (a .a) (a .b) (l .left) (l .u) (c .with-left .result) (l .inv .1) (c .with-left .ensures),
     )
 
 returns : tie.Need-returns Inv-loop μ-loop
 returns c =
     let l = c .before .loop in
     let a = c .before .before .before .args in
+    let cells = cellIn (a .table .now) (a .form) in
     let e : l .left ≡ 7 = omega arith in
-    λ form rows. joined-all form (a .code) (a .a) (a .b) (l .u) (subst (λ (n : ℕ). Joining form (a .code) (a .a) (a .b) n (l .u)) e (l .inv .1 form rows))
+    joined-all cells (a .code) (a .a) (a .b) (l .u) (subst (λ (n : ℕ). Joining cells (a .code) (a .a) (a .b) n (l .u)) e (l .inv .1))
 
 pub under-spec : {M : Type 1} → statement M
 under-spec =
@@ -61,9 +53,6 @@ under-spec =
     μ-loop
     empty-requires
     loop-holds
-    cast-with-left
-    mul-with-left
-    array-read-with-left
     with-left-requires
     add-left
     loop-less

@@ -1,4 +1,5 @@
 -- `summary::with_left` meets its contract: the left code's sets are joined with what is gathered beside it.
+use Rattle.outcomes.specs.Table.{cellIn}
 use Rattle.summary.proofs.Sides.{left-added, left-empty}
 use borrow.Author.Needs.{needs}
 use Rattle.summary.proofs.with_left.Statement.{statement}
@@ -14,7 +15,7 @@ returns : tie.Need-returns
 returns c =
     let a = c .before .before .before .args in
     let x = c .before .before .family-of in
-    λ form row. left-empty form (a .code) (a .a) (a .b) (a .left) (a .u) (rw (x .ensures) at (c .before .is-empty .ensures .sound (c .if1 .taken)))
+    left-empty (cellIn (a .table .now) (a .form)) (a .code) (a .a) (a .b) (a .left) (a .u) (rw (x .ensures) at (c .before .is-empty .ensures .sound (c .if1 .taken)))
 
 gather-requires : tie.Need-gather-requires
 gather-requires c κs = search needs
@@ -27,7 +28,7 @@ returns-2 c =
     let a = c .before .before .before .before .before .args in
     let x = c .before .before .before .before .family-of in
     let y = c .before .gather in
-    λ form row. left-added form (a .code) (a .a) (a .b) (a .left) (a .u) (y .result) (c .grown .result) (y .ensures form (a .left) row) (rw (x .ensures) at (c .grown .ensures))
+    left-added (cellIn (a .table .now) (a .form)) (a .code) (a .a) (a .b) (a .left) (a .u) (y .result) (c .grown .result) (y .ensures) (rw (x .ensures) at (c .grown .ensures))
 
 pub with-left-spec : {M : Type 1} → statement M
 with-left-spec =
