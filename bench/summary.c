@@ -3,13 +3,48 @@
 
 #include <string.h>
 
-/* Document 01's 245 codes: forms 3 to 7, left code 0 to 6. */
-const uint32_t ROWS[5][CODES] = {
-    {0x7777770, 0x6743717, 0x7577277, 0x7677377, 0x7777774, 0x7777775, 0x7777776}, /* sequence */
-    {0x6547770, 0x6743717, 0x6573277, 0x6663337, 0x6746744, 0x6576575, 0x6666666}, /* parallel */
-    {0x6543210, 0x7777771, 0x7777772, 0x7777773, 0x7777774, 0x7777775, 0x7777776}, /* choice */
-    {0x7777770, 0x7377721, 0x7777777, 0x7777777, 0x7777774, 0x7777775, 0x7777776}, /* compensation */
-    {0x7777770, 0x7777771, 0x7777772, 0x7777773, 0x7777777, 0x6543217, 0x6543217}, /* handler */
+/* Document 01's 245 codes: forms 3 to 7, left code 0 to 6, right code 0 to 6, the right changing fastest. */
+const uint8_t CHART[5 * CODES * CODES] = {
+    /* sequence */
+    0, 7, 7, 7, 7, 7, 7,
+    7, 1, 7, 3, 4, 7, 6,
+    7, 7, 2, 7, 7, 5, 7,
+    7, 7, 3, 7, 7, 6, 7,
+    4, 7, 7, 7, 7, 7, 7,
+    5, 7, 7, 7, 7, 7, 7,
+    6, 7, 7, 7, 7, 7, 7,
+    /* parallel */
+    0, 7, 7, 7, 4, 5, 6,
+    7, 1, 7, 3, 4, 7, 6,
+    7, 7, 2, 3, 7, 5, 6,
+    7, 3, 3, 3, 6, 6, 6,
+    4, 4, 7, 6, 4, 7, 6,
+    5, 7, 5, 6, 7, 5, 6,
+    6, 6, 6, 6, 6, 6, 6,
+    /* choice */
+    0, 1, 2, 3, 4, 5, 6,
+    1, 7, 7, 7, 7, 7, 7,
+    2, 7, 7, 7, 7, 7, 7,
+    3, 7, 7, 7, 7, 7, 7,
+    4, 7, 7, 7, 7, 7, 7,
+    5, 7, 7, 7, 7, 7, 7,
+    6, 7, 7, 7, 7, 7, 7,
+    /* compensation */
+    0, 7, 7, 7, 7, 7, 7,
+    1, 2, 7, 7, 7, 3, 7,
+    7, 7, 7, 7, 7, 7, 7,
+    7, 7, 7, 7, 7, 7, 7,
+    4, 7, 7, 7, 7, 7, 7,
+    5, 7, 7, 7, 7, 7, 7,
+    6, 7, 7, 7, 7, 7, 7,
+    /* handler */
+    0, 7, 7, 7, 7, 7, 7,
+    1, 7, 7, 7, 7, 7, 7,
+    2, 7, 7, 7, 7, 7, 7,
+    3, 7, 7, 7, 7, 7, 7,
+    7, 7, 7, 7, 7, 7, 7,
+    7, 1, 2, 3, 4, 5, 6,
+    7, 1, 2, 3, 4, 5, 6,
 };
 
 const uint64_t NOT_RUN[WORDS] = {1};
@@ -28,17 +63,17 @@ static void leaf(word *out, unsigned set, int finishes, int fails)
     }
 }
 
-/* The sets of the right side under the right codes that give this code beside a left code, whose row it is. */
-static void gather(word *out, uint32_t row, unsigned code, const word *area, unsigned r)
+/* The sets of the right side under the right codes that give this code beside a left code. */
+static void gather(word *out, unsigned form, unsigned left, unsigned code, const word *area, unsigned r)
 {
     memset(out, 0, WORDS * sizeof *out);
     for (unsigned right = 0; right < CODES; right++)
-        if ((row >> 4 * right & 15) == code)
+        if (cell(form, left, right) == code)
             family_join(out, family_of(area, r, right));
 }
 
 /* The sets of a node under a code. */
-static void under(word *out, const uint32_t *rows, unsigned code, const word *area, unsigned l, unsigned r)
+static void under(word *out, unsigned form, unsigned code, const word *area, unsigned l, unsigned r)
 {
     memset(out, 0, WORDS * sizeof *out);
     for (unsigned left = 0; left < CODES; left++) {
@@ -46,7 +81,7 @@ static void under(word *out, const uint32_t *rows, unsigned code, const word *ar
         word y[WORDS], unions[WORDS];
         if (family_is_empty(x))
             continue;
-        gather(y, rows[left], code, area, r);
+        gather(y, form, left, code, area, r);
         if (family_is_empty(y))
             continue;
         family_product(unions, x, y);
@@ -64,7 +99,7 @@ void summarise(const struct layout *p, word *area)
             leaf(out, n[0] == ACTION ? 1u << n[1] : 0, type != 2, type != 1);
         } else {
             for (unsigned code = 1; code < CODES; code++)
-                under(out + WORDS * (code - 1), ROWS[n[0] - SEQUENCE], code, area, n[1], n[2]);
+                under(out + WORDS * (code - 1), n[0], code, area, n[1], n[2]);
         }
     }
 }

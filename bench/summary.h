@@ -10,13 +10,12 @@ enum { CODES = 7, SUMMARY_WORDS = 6 * WORDS };
 /* The family of the code 0, not run: the empty set alone. */
 extern const uint64_t NOT_RUN[WORDS];
 
-/* The outcome chart's row of a form, 3 to 7, and a left code: the cell of the right code r is hexadecimal digit r from the right, a code, or 7
-   where the two cannot occur. */
-extern const uint32_t ROWS[5][CODES];
+/* The outcome chart: the cell of a form, 3 to 7, a left code and a right code is a code, or 7 where the two cannot occur. */
+extern const uint8_t CHART[5 * CODES * CODES];
 
 static inline unsigned cell(unsigned form, unsigned left, unsigned right)
 {
-    return ROWS[form - SEQUENCE][left] >> 4 * right & 15;
+    return CHART[((form - SEQUENCE) * CODES + left) * CODES + right];
 }
 
 /* The summaries of a plan's nodes lie in the lent area, node i's from word 96 * i on, code after code. */
