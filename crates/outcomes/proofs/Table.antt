@@ -23,17 +23,21 @@ at-number zero p t k h = absurd (omega arith)
 at-number (suc n) p t zero h = both-hold (p 0) (below n (λ k. p (suc k))) t .0
 at-number (suc n) p t (suc k) h = at-number n (λ k. p (suc k)) (both-hold (p 0) (below n (λ k. p (suc k))) t .1) k (omega arith)
 
--- the place of a cell is (form - 3) * 49 + left * 7 + right
-abbrev pub all-cells : (ℕ → ℕ → ℕ → Bool) → Bool
-all-cells p = below 245 (λ k. p (k / 49 + 3) (k / 7 % 7) (k % 7))
-
-pub at-cell : (p : ℕ → ℕ → ℕ → Bool) → T (all-cells p) → {form l r : ℕ} → 3 ≤ form → form ≤ 7 → l < 7 → r < 7 → T (p form l r)
-at-cell p t {form} {l} {r} h₁ h₂ h₃ h₄ =
+-- the place of a cell is (form - 3) * 49 + left * 7 + right: what holds at every place holds at every cell's
+at-place : (P : ℕ → ℕ → ℕ → ℕ → Type 0) → ((k : ℕ) → k < 245 → P k (k / 49 + 3) (k / 7 % 7) (k % 7))
+    → (form l r : ℕ) → 3 ≤ form → form ≤ 7 → l < 7 → r < 7 → P ((form - 3) * 49 + l * 7 + r) form l r
+at-place P h form l r h₁ h₂ h₃ h₄ =
     let k : ℕ = (form - 3) * 49 + l * 7 + r in
     let e₁ : k / 49 + 3 ≡ form = omega arith in
     let e₂ : k / 7 % 7 ≡ l = omega arith in
     let e₃ : k % 7 ≡ r = omega arith in
-    rw (e₁, e₂, e₃) at (at-number 245 (λ k. p (k / 49 + 3) (k / 7 % 7) (k % 7)) t k (omega arith))
+    rw (e₁, e₂, e₃) at (h k (omega arith))
+
+abbrev pub all-cells : (ℕ → ℕ → ℕ → Bool) → Bool
+all-cells p = below 245 (λ k. p (k / 49 + 3) (k / 7 % 7) (k % 7))
+
+pub at-cell : (p : ℕ → ℕ → ℕ → Bool) → T (all-cells p) → {form l r : ℕ} → 3 ≤ form → form ≤ 7 → l < 7 → r < 7 → T (p form l r)
+at-cell p t {form} {l} {r} = at-place (λ k form l r. T (p form l r)) (at-number 245 (λ k. p (k / 49 + 3) (k / 7 % 7) (k % 7)) t) form l r
 
 -- what is listed stands at its place
 getD-listed : (n : ℕ) (f : ℕ → ℕ) (k : ℕ) → k < n → getD (listed n f) k 0 ≡ f k
@@ -43,12 +47,7 @@ getD-listed (suc n) f (suc k) h = getD-listed n (λ k. f (suc k)) k (omega arith
 
 in-chart : (form l r : ℕ) → 3 ≤ form → form ≤ 7 → l < 7 → r < 7 → getD chart ((form - 3) * 49 + l * 7 + r) 0 ≡ cell form l r
 unfolding chart
-in-chart form l r h₁ h₂ h₃ h₄ =
-    let k : ℕ = (form - 3) * 49 + l * 7 + r in
-    let e₁ : k / 49 + 3 ≡ form = omega arith in
-    let e₂ : k / 7 % 7 ≡ l = omega arith in
-    let e₃ : k % 7 ≡ r = omega arith in
-    getD-listed 245 (λ k. cell (k / 49 + 3) (k / 7 % 7) (k % 7)) k (omega arith) ∙ rw (e₁, e₂, e₃)
+in-chart = at-place (λ k form l r. getD chart k 0 ≡ cell form l r) (getD-listed 245 (λ k. cell (k / 49 + 3) (k / 7 % 7) (k % 7)))
 
 unless : (b : Bool) (x y : ℕ) → (b ≡ false → x ≡ y) → cond b 7 x ≡ cond b 7 y
 unless true x y h = refl
