@@ -3,7 +3,7 @@ ghost use mathlib.Core.Path.{_≡_};
 ghost use Prim.Native.Nat.{_+_, _<_};
 ghost use lib.ListN.{getD};
 ghost use Rattle.blocks.specs.Block.{le16};
-ghost use Rattle.fields.specs.Number.{fourAt, fourOf, FourOrCut, numberAt};
+ghost use Rattle.fields.specs.Number.{fourAt, numberAt};
 
 pub fn wide(x: u8) -> u64
     ensures { λ r. ⌜ (r ≡ x) × (r < 256) ⌝ }
@@ -49,16 +49,6 @@ pub fn four_at(s: &[u8], at: usize) -> u64
     let b2 = byte_after(s, at, 2);
     let b3 = byte_after(s, at, 3);
     b0 + 256 * (b1 + 256 * (b2 + 256 * b3))
-}
-
-// The number of the four bytes at the start, of which `count` have come. Where they are cut short, it is more than four bytes hold.
-pub fn four_of(s: &[u8; 4], count: usize) -> u64
-    ensures { λ r. ⌜ (r ≡ fourOf (now (s .entry)) count) × FourOrCut r ⌝ }
-{
-    if count < 4 {
-        return u64::MAX;
-    }
-    four_at(s, 0)
 }
 
 // The number of the eight bytes at `at`.
