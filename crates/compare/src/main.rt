@@ -7,7 +7,7 @@ ghost use lib.ListN.{length};
 use libc::STDOUT_FILENO;
 use vectors::Group;
 
-// Room for a whole data file. One that is longer is cut, and so damaged.
+// Room for a whole data file. A longer one is cut there, and is damaged where a vector or more is then missing.
 fn room() -> [u8; 655360]
     ensures { λ r. ⌜ 655360 ≡ length r ⌝ }
 {
