@@ -1,8 +1,9 @@
 #!/usr/bin/env python3
 """Writes the vectors of the program `compare` anew: tests/make_vectors.py MODEL
 
-MODEL is the folder of the model (plans.py and sessions.py say which). Written: crates/compare/data/files, runs and verdicts, crates/compare/stdout,
-crates/inspect/stdin, crates/verdict/stdin and stdout, crates/course/data, and the session of the program `run`, crates/run/data/plan, stdin and stdout.
+MODEL is the folder of the model (plans.py and sessions.py say which). Written: crates/compare/data/files, runs and verdicts, what each program reads
+and is to write (stdin, stdout, args and data in its crate), the plans of the course, crates/course/data, and the stored cases but those that stand
+for the front door alone, tests/stored and tests/files.
 docs/VECTORS.md has the format. The numbers expected are the model's. Where document 01 names one, the script ends if the model has another.
 Nothing but the seeds below decides what is made, so that a second run writes the same bytes.
 """
@@ -14,6 +15,7 @@ import sys
 from office import MENDED, SWALLOWED
 from plans import block, blocks_of, damaged, model_in, number_of, random_plan
 from sessions import Model, cells_in, permitted, random_entries, session_of
+from stored import chart_lines, inspect_lines, stored_cases, verdict_lines
 from verdicts import verdict_vectors
 
 SEED_PLANS, PLANS = 20071, 300
@@ -21,8 +23,8 @@ SEED_DAMAGED, DAMAGED = 20072, 1000
 SEED_FEW, FEW = 20073, 220
 SEED_MANY, MANY = 20074, 120
 SEED_MADE_UP, MADE_UP = 20075, 30
-# the rooms that the program has for a name and for a body
-NAME_ROOM, BODY_ROOM = 64, 66000
+# what the program has room for: the bytes of a name, and of a data file
+NAME_ROOM, DATA_ROOM = 64, 655360
 
 SKIP, THROW = (1, 0, 0), (2, 0, 0)
 SEQUENCE, PARALLEL, CHOICE, COMPENSATION, HANDLER = 3, 4, 5, 6, 7
@@ -436,13 +438,44 @@ def data_of(vectors):
     out = len(vectors).to_bytes(4, 'little')
     for name, body in vectors:
         text = name.encode('ascii')
-        if len(text) > NAME_ROOM or len(body) > BODY_ROOM:
-            sys.exit(f'{name}: no room for {len(text)} bytes of name and {len(body)} of body')
+        if len(text) > NAME_ROOM:
+            sys.exit(f'{name}: no room for {len(text)} bytes of name')
         out += len(text).to_bytes(4, 'little') + len(body).to_bytes(4, 'little') + text + body
+    if len(out) > DATA_ROOM:
+        sys.exit(f'no room for a data file of {len(out)} bytes')
     names = [name for name, _ in vectors]
     if len(set(names)) != len(names):
         sys.exit(f'a name that two vectors have: {next(n for n in names if names.count(n) > 1)}')
     return out
+
+
+def write_programs(cells, write, of_course):
+    """what the other programs read and are to write, the plans of the course, and the stored cases"""
+    for name, file in of_course.items():
+        write(f'crates/course/data/{name}.plan', file)
+    write('crates/course/stdout', ''.join(f'{name}.plan\n' + verdict_lines(cells, file) for name, file in of_course.items()).encode())
+    write('crates/inspect/stdin', P1)
+    write('crates/inspect/stdout', inspect_lines(cells, P1).encode())
+    lines = verdict_lines(cells, of_course['p2'])
+    if lines != 'violated 2\n0 2\n1 1\n3 1\n':
+        sys.exit(f'P2: the model says {lines!r}, which is not what document 01 has')
+    write('crates/verdict/stdin', of_course['p2'])
+    write('crates/verdict/stdout', lines.encode())
+    write('crates/chart/stdout', chart_lines(cells).encode())
+    write('crates/run/args', b'plan\n')
+    write('crates/run/data/plan', SWALLOWED)
+    write('crates/run/stdin', session_by_hand())
+    write('crates/run/stdout', session_of(cells, SWALLOWED, session_by_hand()).encode())
+    # of the examples for one number the last, which is a whole file
+    own = {f'refused-{number}': file for _, number, file in examples_of_table() if number not in (None, 8)}
+    own |= {'largest': LARGEST, 'too-long': LARGEST + b'\0'}
+    for name, file in own.items():
+        write(f'tests/files/{name}.plan', file)
+    for name, words, reads, writes in stored_cases(cells, of_course, own):
+        write(f'tests/stored/{name}/command', ''.join(word + '\n' for word in words).encode())
+        if reads is not None:
+            write(f'tests/stored/{name}/stdin', reads)
+        write(f'tests/stored/{name}/stdout', writes)
 
 
 def main():
@@ -478,7 +511,9 @@ def main():
         add(f'damaged plan {n} of seed {SEED_DAMAGED}', file)
 
     def write(path, data):
-        with open(os.path.join(root, path), 'wb') as file:
+        path = os.path.join(root, path)
+        os.makedirs(os.path.dirname(path), exist_ok=True)
+        with open(path, 'wb') as file:
             file.write(data)
 
     files = data_of([(name, bytes([number]) + file) for name, number, file in vectors])
@@ -486,20 +521,12 @@ def main():
     runs = list(runs_vectors(cells))
     write('crates/compare/data/files', files)
     write('crates/compare/data/runs', data_of(runs))
-    of_course = list(plans_of_document()) + [('swallowed', SWALLOWED), ('mended', MENDED)]
-    verdicts = list(verdict_vectors(model, of_course, edges_of_lengths()))
+    judged = list(plans_of_document()) + [('swallowed', SWALLOWED), ('mended', MENDED)]
+    verdicts = list(verdict_vectors(model, judged, edges_of_lengths()))
     write('crates/compare/data/verdicts', data_of(verdicts))
     counts = ''.join(f'{group}: {n} vectors, {n} agree\n' for group, n in (('files', len(vectors)), ('runs', len(runs)), ('verdicts', len(verdicts))))
     write('crates/compare/stdout', counts.encode())
-    for name, file in of_course:
-        write(f'crates/course/data/{name.lower()}.plan', file)
-    write('crates/inspect/stdin', P1)
-    # document 01 has these four lines
-    write('crates/verdict/stdin', dict(plans_of_document())['P2'])
-    write('crates/verdict/stdout', b'violated 2\n0 2\n1 1\n3 1\n')
-    write('crates/run/data/plan', SWALLOWED)
-    write('crates/run/stdin', session_by_hand())
-    write('crates/run/stdout', session_of(cells, SWALLOWED, session_by_hand()).encode())
+    write_programs(cells, write, {name.lower(): file for name, file in judged} | {'broken': whole([3], (), NESTED)})
     counts = {number: sum(n == number for _, n, _ in vectors) for number in range(10)}
     print(f'files: {len(vectors)} vectors, {len(files)} bytes; of each number:', ', '.join(f'{k}: {v}' for k, v in counts.items()))
     steps = [body[at:at + 12] for _, body in runs if body[0] == 0 for at in range(13 + int.from_bytes(body[1:3], 'little'), len(body), 12)]

@@ -1,0 +1,99 @@
+"""What the programs are to write, by the model, and the stored cases: commands of ./vodjimar, each with what it is to write.
+
+What make_vectors.py writes to tests/stored and tests/files. A verdict's lines are made for plans of which just one run leaves the set told, since which
+run is shown is left free.
+"""
+import sys
+
+from plans import number_of
+from sessions import session_of
+
+FORMS = {'sequence': 'seq', 'parallel': 'par', 'choice': 'choice', 'compensation': 'comp', 'handler': 'handler'}
+
+
+def verdict_lines(cells, file):
+    """what `verdict` writes: the verdict and, of a violation, the one complete run that leaves its set"""
+    answer = cells.verdict(bytes(file))
+    lines = [answer]
+    if answer[0] == 'violated':
+        types, _, nodes, _ = cells.parse(bytes(file))
+        tree = cells.tree_of(nodes, types)
+        runs = [run for run, _ in cells.Sem().complete(tree) if cells.set_of(run, tree) == answer[1]]
+        if len(set(runs)) != 1:
+            sys.exit(f'{bytes(file).hex(" ")}: {len(runs)} runs leave the set {answer[1]}')
+        lines += runs[0]
+    return ''.join(' '.join(str(part) for part in line) + '\n' for line in lines)
+
+
+def inspect_lines(cells, file):
+    number = number_of(cells, file)
+    return f'refused {number}\n' if number else 'accepted\n'
+
+
+def run_lines(cells, file, text):
+    number = number_of(cells, file)
+    return f'refused {number}\n' if number else session_of(cells, file, text)
+
+
+def chart_lines(cells):
+    """a table for each form: a row for each left code, a number for each right code"""
+    table = lambda form: ''.join(' '.join(str(cells.cell(form, left, right)) for right in range(7)) + '\n' for left in range(7))
+    return '\n'.join(f'{name}\n{table(form)}' for name, form in FORMS.items())
+
+
+# Sessions by hand: the plan, the lines, and how the last that is told ends.
+SESSIONS = {
+    # each action finishes
+    'succeeds': ('p1', b'0 1\n3 1\n', 'may end succeeded'),
+    # the first fails, and there is nothing to undo
+    'fails': ('p1', b'0 2\n', 'may end failed'),
+    # the second fails, and the first is undone, to the end
+    'undone': ('p1', b'0 1\n3 2\n1 1\n', 'may end failed'),
+    # the right's undo fails, and the left's is not run
+    'undo-fails': ('p6', b'0 1\n3 1\n7 2\n4 2\n1 1\n', 'may end failed'),
+    # the outer undo runs in the inner one's place
+    'undo-replaced': ('p5', b'0 1\n5 2\n1 1\n3 1\n', 'may end failed'),
+    # a handler goes on where the undo of what failed has failed
+    'handled': ('p4', b'0 1\n3 2\n5 1\n1 2\n5 1\n', 'may end succeeded'),
+    # one side of a parallel has failed: the run may end, and the other side may still come
+    'parallel': ('p3', b'0 2\n1 1\n', 'may end failed'),
+    # entries out of turn, with outcomes that there are not, of nodes that are no leaves or are not there; what was told still holds
+    'refused-entries': ('p1', b'3 1\n1 1\n2 1\n4 1\n5 1\n63 1\n255 255\n0 0\n0 3\n0 1\n0 1\n0 2\n1 1\n3 0\n3 2\n3 1\n1 2\n1 1\n1 1\n', 'may end failed'),
+    # almost entries, a long line, bytes of all kinds; then an entry without a newline
+    'no-entries': ('p1', b'\n \n0\n0 \n 0 1\n0  1\n0 1 \n0 1 2\n0\t1\n0 1\r\n00 1\n0 01\n+0 1\n-0 1\n0,1\n0 256\n256 1\n0 4294967297\n'
+                   b'0 18446744073709551617\nzero one\n\0\n0\0 1\n\xff\n\xc2\xa00 1\n' + b'0 1' * 2000 + b'\n' + b'0' * 5000 + b' 1\n0 1', 'open'),
+    # no line at all
+    'no-input': ('p1', b'', 'open'),
+    # as many entries as a run can have
+    'largest': ('largest', b''.join(b'%d 1\n' % n for n in [0] + list(range(1, 63, 2))), 'may end succeeded'),
+}
+CONSISTENT, VIOLATED = ('p1', 'mended'), ('p2', 'p3', 'p7', 'swallowed', 'largest')
+
+
+def stored_cases(cells, of_course, own):
+    """the name of each case, its words, what it reads and what it is to write. of_course and own have the files of plans/ and of tests/files"""
+    files = {**of_course, **own}
+    path = lambda name: f'{"tests/files" if name in own else "plans"}/{name}.plan'
+
+    for name, number in [(f'refused-{n}', n) for n in range(1, 10) if n != 8] + [('broken', 8), ('too-long', 1)]:
+        case = 'refused-8' if name == 'broken' else name
+        if number_of(cells, files[name]) != number:
+            sys.exit(f'{name}: the model does not say {number}')
+        yield f'verdict-{case}', ['verdict', path(name)], None, verdict_lines(cells, files[name]).encode()
+        yield f'inspect-{case}', ['inspect', path(name)], None, inspect_lines(cells, files[name]).encode()
+        # a line that is not heard
+        yield f'run-{case}', ['run', path(name)], b'0 1\n', run_lines(cells, files[name], b'').encode()
+    for kind, names in (('consistent', CONSISTENT), ('violated', VIOLATED)):
+        for name in names:
+            lines = verdict_lines(cells, files[name])
+            if not lines.startswith(kind):
+                sys.exit(f'{name}: the model does not say {kind}')
+            yield f'verdict-{kind}-{name}', ['verdict', path(name)], None, lines.encode()
+    for name in ('p1', 'largest'):
+        yield f'inspect-accepted-{name}', ['inspect', path(name)], None, inspect_lines(cells, files[name]).encode()
+    for case, (name, text, end) in SESSIONS.items():
+        lines = run_lines(cells, files[name], text)
+        if [line for line in lines.splitlines() if line.startswith(('open', 'may end'))][-1] != end:
+            sys.exit(f'session {case}: the model does not end with {end}')
+        yield f'run-{case}', ['run', path(name)], text, lines.encode()
+    yield 'chart', ['chart'], None, chart_lines(cells).encode()
