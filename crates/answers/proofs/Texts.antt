@@ -2,14 +2,15 @@
 use mathlib.Core.Path.{_≡_, refl, sym, ap, _∙_}
 use mathlib.Core.Bool.{Bool, true, false}
 use mathlib.Core.List.{List, [], _∷_, _++_}
-use Prim.Native.Nat.{ℕ, zero, suc, _+_, _-_, _*_, _≤_, _<_}
+use Prim.Native.Nat.{ℕ, _≤_, _<_}
 use native.Mathlib.Omega.{arith}
-use native.Mathlib.Numerals.{add-one}
 use lib.ListN.{length, length-append}
 use Rattle.text.specs.Decimal.{decimal}
 use Rattle.text.specs.Text.{pushed, appended}
 use Rattle.text.specs.declared.Text.{Text}
 use Rattle.text.proofs.Texts.{appended-both, appended-one}
+use Rattle.text.specs.Lines.{each}
+use Rattle.text.proofs.Ends.{each-few}
 use Rattle.text.proofs.Decimals.{decimal-of-byte}
 use Rattle.job.specs.declared.Status.the-variants.{Succeeded, Failed}
 use Rattle.job.specs.declared.End.{End}
@@ -17,7 +18,7 @@ use Rattle.job.specs.declared.End.the-variants.{Open, MayEnd}
 use Rattle.job.specs.declared.Told.{Told}
 use Rattle.job.specs.declared.Answer.{Answer}
 use Rattle.job.specs.declared.Answer.the-variants as answer
-use Rattle.answers.specs.Lines.{comesNext, leafText, leavesText, endLine, toldLines}
+use Rattle.answers.specs.Lines.{comesNext, leafText, endLine, toldLines}
 
 pub leaf-comes : (t : Text) (next leaf : ℕ) → comesNext next leaf ≡ true → appended (pushed t 32) (decimal leaf) ≡ appended t (leafText next leaf)
 unfolding appended
@@ -27,22 +28,8 @@ pub leaf-stays : (t : Text) (next leaf : ℕ) → comesNext next leaf ≡ false 
 unfolding appended
 leaf-stays t next leaf h = rw h
 
--- one leaf more, and none after the last
-pub leaves-step : (t : Text) (next leaf : ℕ) → leaf < 64
-    → appended t (leavesText next leaf (64 - leaf)) ≡ appended (appended t (leafText next leaf)) (leavesText next (leaf + 1) (64 - (leaf + 1)))
-unfolding leavesText
-leaves-step t next leaf h =
-    let e : 64 - leaf ≡ suc (64 - (leaf + 1)) = omega arith in
-    rw e (appended-both t (leafText next leaf) (leavesText next (leaf + 1) (64 - (leaf + 1))))
-
-pub leaves-end : (t : Text) (next leaf : ℕ) → 64 ≤ leaf → appended t (leavesText next leaf (64 - leaf)) ≡ t
-unfolding leavesText appended
-leaves-end t next leaf h =
-    let e : 64 - leaf ≡ 0 = omega arith in
-    rw e
-
 pub told-put : (t : Text) (told : Told)
-    → appended (pushed (appended (appended t (110 ∷ 101 ∷ 120 ∷ 116 ∷ [])) (leavesText (told .next) 0 64)) 10) (endLine (told .end)) ≡ appended t (toldLines told)
+    → appended (pushed (appended (appended t (110 ∷ 101 ∷ 120 ∷ 116 ∷ [])) (each (leafText (told .next)) 0 64)) 10) (endLine (told .end)) ≡ appended t (toldLines told)
 unfolding toldLines
 told-put t told = rw (appended-both, appended-both, appended-both _ (10 ∷ []) (endLine (told .end)), appended-one)
 
@@ -54,11 +41,6 @@ leaf-few next leaf h = go (comesNext next leaf) refl
     go true e = rw e (omega (arith, decimal-of-byte leaf h))
     go false e = rw e (omega arith)
 
-leaves-few : (next leaf k : ℕ) → leaf + k < 1000 → length (leavesText next leaf k) ≤ 4 * k
-unfolding leavesText
-leaves-few next leaf zero h = omega arith
-leaves-few next leaf (suc k) h = simp length-append (omega (arith, leaf-few next leaf (omega arith), leaves-few next (leaf + 1) k (omega arith)))
-
 end-few : (e : End) → length (endLine e) ≤ 18
 end-few Open = omega arith
 end-few (MayEnd Succeeded) = omega arith
@@ -66,4 +48,4 @@ end-few (MayEnd Failed) = omega arith
 
 pub told-few : (t : Told) → length (toldLines t) ≤ 640
 unfolding toldLines
-told-few t = simp length-append (omega (arith, leaves-few (t .next) 0 64 (omega arith), end-few (t .end)))
+told-few t = simp length-append (omega (arith, each-few (leafText (t .next)) 4 0 64 (λ n h. leaf-few (t .next) n (omega arith)), end-few (t .end)))

@@ -2,10 +2,10 @@
 -- blank, and then `open`, `may end succeeded` or `may end failed`; after a refusal `refused` and its number.
 use mathlib.Core.Bool.{Bool, cond}
 use mathlib.Core.List.{List, [], _∷_, _++_}
-use Prim.Native.Nat.{ℕ, zero, suc, _+_, _/_, _%_, _^_}
+use Prim.Native.Nat.{ℕ, _/_, _%_, _^_}
 use lib.Dec.{eqb}
 use Rattle.text.specs.Decimal.{decimal}
-use Rattle.text.specs.Lines.{numbered, refused}
+use Rattle.text.specs.Lines.{numbered, refused, each}
 use Rattle.job.specs.declared.Status.the-variants.{Succeeded, Failed}
 use Rattle.job.specs.declared.End.{End}
 use Rattle.job.specs.declared.End.the-variants.{Open, MayEnd}
@@ -21,11 +21,6 @@ comesNext next leaf = eqb (next / 2 ^ leaf % 2) 1
 abbrev pub leafText : ℕ → ℕ → List ℕ
 leafText next leaf = cond (comesNext next leaf) (32 ∷ decimal leaf) []
 
--- the same for k leaves, from this one on
-unfoldable pub leavesText : ℕ → ℕ → ℕ → List ℕ
-leavesText next leaf zero = []
-leavesText next leaf (suc k) = leafText next leaf ++ leavesText next (leaf + 1) k
-
 -- `open`, `may end succeeded`, `may end failed`
 abbrev pub endLine : End → List ℕ
 endLine Open = 111 ∷ 112 ∷ 101 ∷ 110 ∷ 10 ∷ []
@@ -34,7 +29,7 @@ endLine (MayEnd Failed) = 109 ∷ 97 ∷ 121 ∷ 32 ∷ 101 ∷ 110 ∷ 100 ∷ 
 
 -- `next` and the leaves, of which a mask of 64 bits can tell 64; then the end
 unfoldable pub toldLines : Told → List ℕ
-toldLines t = (110 ∷ 101 ∷ 120 ∷ 116 ∷ []) ++ (leavesText (t .next) 0 64 ++ (10 ∷ endLine (t .end)))
+toldLines t = (110 ∷ 101 ∷ 120 ∷ 116 ∷ []) ++ (each (leafText (t .next)) 0 64 ++ (10 ∷ endLine (t .end)))
 
 abbrev pub answerLines : Answer → List ℕ
 answerLines (answer.Told t) = toldLines t

@@ -5,8 +5,9 @@ use job::Status;
 use job::Told;
 use text::Text;
 ghost use mathlib.Core.Path.{_≡_};
+ghost use Rattle.text.specs.Lines.{each};
 ghost use Rattle.text.specs.Text.{appended, textOf};
-ghost use Rattle.answers.specs.Lines.{comesNext, leafText, leavesText, endLine, toldLines, answerLines};
+ghost use Rattle.answers.specs.Lines.{comesNext, leafText, endLine, toldLines, answerLines};
 
 // Whether the leaf is among those that may come next, whose bits are set in `next`.
 fn comes_next(next: u64, leaf: u64) -> bool
@@ -29,7 +30,7 @@ fn put_leaf(t: Text, next: u64, leaf: u64) -> Text
 }
 
 fn put_leaves(t: Text, next: u64) -> Text
-    ensures { λ r. ⌜ r ≡ appended t (leavesText next 0 64) ⌝ }
+    ensures { λ r. ⌜ r ≡ appended t (each (leafText next) 0 64) ⌝ }
 {
     let mut grown = t;
     let mut leaf = 0;

@@ -1,16 +1,17 @@
 -- The chart's lines, put into a text cell by cell; and all of them have room in one, which is computed.
 use mathlib.Core.Path.{_≡_, refl, sym, ap, _∙_}
 use mathlib.Core.List.{List, [], _∷_, _++_}
-use Prim.Native.Nat.{ℕ, suc, _+_, _-_, _/_, _%_, _≤_, _<_}
+use Prim.Native.Nat.{ℕ, _/_, _%_, _≤_, _<_}
 use native.Mathlib.Omega.{arith}
 use lib.ListN.{length}
 use borrow.Author.Tests.{lt-ltb, le-ltb}
 use Rattle.text.specs.Decimal.{decimal, digits}
+use Rattle.text.specs.Lines.{each}
 use Rattle.text.specs.Text.{pushed, appended}
 use Rattle.text.specs.declared.Text.{Text}
 use Rattle.text.proofs.Texts.{appended-both, appended-one}
 use Rattle.outcomes.specs.Cells.{cell, lines}
-use Rattle.chart.specs.Lines.{cellText, cellsText, tableText, chartLines}
+use Rattle.chart.specs.Lines.{cellText, tableText, chartLines}
 
 module _ (t : Text) (form place : ℕ) where
   pub within-row : place % 7 < 6 → pushed (appended t (decimal (cell form (place / 7) (place % 7)))) 32 ≡ appended t (cellText form place)
@@ -21,21 +22,8 @@ module _ (t : Text) (form place : ℕ) where
   unfolding cellText
   row-ends h = rw (le-ltb (place % 7) 6 h, appended-both, appended-one)
 
-  -- one cell more, and none after the last
-  pub cells-step : place < 49 → appended t (cellsText form place (49 - place)) ≡ appended (appended t (cellText form place)) (cellsText form (place + 1) (49 - (place + 1)))
-  unfolding cellsText
-  cells-step h =
-      let e : 49 - place ≡ suc (49 - (place + 1)) = omega arith in
-      rw e (appended-both t (cellText form place) (cellsText form (place + 1) (49 - (place + 1))))
-
-  pub cells-end : 49 ≤ place → appended t (cellsText form place (49 - place)) ≡ t
-  unfolding cellsText appended
-  cells-end h =
-      let e : 49 - place ≡ 0 = omega arith in
-      rw e
-
 pub chart-room : length chartLines ≡ 540
-unfolding chartLines tableText cellsText cellText digits cell lines
+unfolding chartLines tableText each cellText digits cell lines
 chart-room = refl
 
 -- five tables, one after the other

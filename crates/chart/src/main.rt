@@ -1,7 +1,8 @@
 // Writes the outcome chart: a table for each form, under its name, with a row for each left code and a number for each right code.
 ghost use mathlib.Core.Path.{_≡_};
+ghost use Rattle.text.specs.Lines.{each};
 ghost use Rattle.text.specs.Text.{appended, textOf};
-ghost use Rattle.chart.specs.Lines.{cellText, cellsText, tableText, chartLines};
+ghost use Rattle.chart.specs.Lines.{cellText, tableText, chartLines};
 use libc::STDOUT_FILENO;
 use text::Text;
 
@@ -19,7 +20,7 @@ fn put_cell(t: Text, form: u8, place: u8) -> Text
 }
 
 fn put_cells(t: Text, form: u8) -> Text
-    ensures { λ r. ⌜ r ≡ appended t (cellsText form 0 49) ⌝ }
+    ensures { λ r. ⌜ r ≡ appended t (each (cellText form) 0 49) ⌝ }
 {
     let mut grown = t;
     let mut place = 0;

@@ -1,6 +1,6 @@
 -- The lines that more than one program writes, as bytes.
 use mathlib.Core.List.{List, [], _∷_, _++_}
-use Prim.Native.Nat.{ℕ}
+use Prim.Native.Nat.{ℕ, zero, suc, _+_}
 use Rattle.text.specs.Decimal.{decimal}
 
 -- A text and a newline (10).
@@ -14,3 +14,8 @@ numbered word n = word ++ (32 ∷ line (decimal n))
 -- The text "refused".
 abbrev pub refused : List ℕ
 refused = 114 ∷ 101 ∷ 102 ∷ 117 ∷ 115 ∷ 101 ∷ 100 ∷ []
+
+-- What f gives for k numbers, from i on, one after the other.
+unfoldable pub each : (ℕ → List ℕ) → ℕ → ℕ → List ℕ
+each f i zero = []
+each f i (suc k) = f i ++ each f (i + 1) k
