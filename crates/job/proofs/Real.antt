@@ -112,12 +112,14 @@ replay-at types b (d ∷ xs) e ys table after h k = go (replay-at types b xs e y
     go rest (inl m) = rest (rw m at h) (rw m at k)
     go rest (inr m) = absurd (true≢false (sym (rw m at h)))
 
-offer-snoc : (x : Standing) (es : List Entry) (e : Entry) → offer x (es ++ (e ∷ [])) ≡ next (offer x es) e
+-- one entry more, offered after the others
+pub offer-snoc : (x : Standing) (es : List Entry) (e : Entry) → offer x (es ++ (e ∷ [])) ≡ next (offer x es) e
 unfolding offer
 offer-snoc x [] e = refl
 offer-snoc x (d ∷ es) e = offer-snoc (next x d) es e
 
-next-job : (x : Standing) (e : Entry) → next x e .job ≡ takeOf (x .job) e .job
+-- the next entry goes to the job that is handed back
+pub next-job : (x : Standing) (e : Entry) → next x e .job ≡ takeOf (x .job) e .job
 next-job x e = go (takeOf (x .job) e .answer)
   where
     go : (a : Answer) → onAnswer a (takeOf (x .job) e .job) (x .told) .job ≡ takeOf (x .job) e .job

@@ -12,14 +12,11 @@ use Rattle.runs.specs.Beginnings.{Begins}
 use Rattle.state.specs.State.{entriesFrom}
 use Rattle.state.specs.declared.Entry.{Entry}
 use Rattle.job.specs.Job.{takeOf}
-use Rattle.job.specs.Offer.{Standing, onAnswer, next, offer, started, statusNumber, statusOf, runEntry, recordOf}
+use Rattle.job.specs.Offer.{Standing, offer, started, statusNumber, statusOf, runEntry, recordOf}
 use Rattle.job.specs.Numbers.{numberOf, endNumber}
 use Rattle.job.specs.Demand2.{planProcess, Continues, Honest}
-use Rattle.job.specs.declared.Told.{Told}
-use Rattle.job.specs.declared.Job.{Job}
-use Rattle.job.specs.declared.Answer.{Answer}
-use Rattle.job.specs.declared.Answer.the-variants as answer
 use Rattle.job.proofs.Demand2.{demand2}
+use Rattle.job.proofs.Real.{offer-snoc, next-job}
 use Rattle.judge.specs.Demand3.{TakesAll, no-more, one-more, Replays}
 
 -- an entry whose outcome is a status's number
@@ -29,19 +26,6 @@ WithStatus e = e .outcome ≡ statusNumber (statusOf (e .outcome))
 abbrev pub AllStatus : List Entry → Type 0
 AllStatus [] = Unit {0}
 AllStatus (e ∷ es) = WithStatus e × AllStatus es
-
-offer-more : (x : Standing) (es : List Entry) (e : Entry) → offer x (es ++ (e ∷ [])) ≡ next (offer x es) e
-unfolding offer
-offer-more x [] e = refl
-offer-more x (d ∷ es) e = offer-more (next x d) es e
-
-answer-job : (a : Answer) (j : Job) (t : Told) → onAnswer a j t .job ≡ j
-answer-job (answer.Told u) j t = refl
-answer-job (answer.Refused n) j t = refl
-
--- the next entry goes to the job that is handed back
-next-job : (x : Standing) (e : Entry) → next x e .job ≡ takeOf (x .job) e .job
-next-job x e = answer-job (takeOf (x .job) e .answer) (takeOf (x .job) e .job) (x .told)
 
 module _ (s : List ℕ) (l : Layout) (h : readOf s ≡ Accepted l) where
   abbrev at : List Entry → Standing
@@ -55,7 +39,7 @@ module _ (s : List ℕ) (l : Layout) (h : readOf s ≡ Accepted l) where
   goes : (before : List Entry) (e : Entry) → WithStatus e → Begins (planProcess s l) (recordOf (at before .job) ++ (runEntry e ∷ [])) → Goes before e
   goes before e a begins =
       let t = demand2 .honest s l h before .takes e (record { status = statusOf (e .outcome); outcome = a; begins = begins }) in
-      record { taken = t .number; recorded = rw (offer-more (started s l) before e, next-job (at before) e) (t .recorded) }
+      record { taken = t .number; recorded = rw (offer-snoc (started s l) before e, next-job (at before) e) (t .recorded) }
 
   snoc-runs : (es : List Entry) (e : Entry) → map runEntry (es ++ (e ∷ [])) ≡ map runEntry es ++ (runEntry e ∷ [])
   snoc-runs [] e = refl
@@ -76,7 +60,7 @@ module _ (s : List ℕ) (l : Layout) (h : readOf s ≡ Accepted l) where
       let d : Complete (planProcess s l) (map runEntry longer ++ map runEntry es) status = rw (cons-after before e es) at c in
       let g = goes before e a (rw (r, ← snoc-runs before e) (map runEntry es, status, d)) in
       let (y, t, z) = takes-rest es longer status b (g .recorded ∙ rw (r, snoc-runs before e)) d in
-      (y, one-more (g .taken) (subst (λ (x : Standing). TakesAll x es y) (offer-more (started s l) before e) t), z)
+      (y, one-more (g .taken) (subst (λ (x : Standing). TakesAll x es y) (offer-snoc (started s l) before e) t), z)
 
   pub replays : (es : List Entry) (status : Status) → AllStatus es → Complete (planProcess s l) (map runEntry es) status → Replays s l es status
   unfolding offer entriesFrom
