@@ -6,7 +6,7 @@ use Prim.Native.Nat.{ℕ, _≤_, _<_}
 use native.Mathlib.Omega.{arith}
 use lib.ListN.{length, length-append}
 use Rattle.text.specs.Decimal.{decimal}
-use Rattle.text.specs.Text.{pushed, appended}
+use Rattle.text.specs.Text.{ascii, pushed, appended}
 use Rattle.text.specs.declared.Text.{Text}
 use Rattle.text.proofs.Texts.{appended-both, appended-one}
 use Rattle.text.specs.Lines.{each}
@@ -29,7 +29,7 @@ unfolding appended
 leaf-stays t next leaf h = rw h
 
 pub told-put : (t : Text) (told : Told)
-    → appended (pushed (appended (appended t (110 ∷ 101 ∷ 120 ∷ 116 ∷ [])) (each (leafText (told .next)) 0 64)) 10) (endLine (told .end)) ≡ appended t (toldLines told)
+    → appended (pushed (appended (appended t (ascii "next")) (each (leafText (told .next)) 0 64)) 10) (endLine (told .end)) ≡ appended t (toldLines told)
 unfolding toldLines
 told-put t told = rw (appended-both, appended-both, appended-both _ (10 ∷ []) (endLine (told .end)), appended-one)
 

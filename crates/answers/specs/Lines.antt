@@ -6,6 +6,7 @@ use Prim.Native.Nat.{ℕ, _/_, _%_, _^_}
 use lib.Dec.{eqb}
 use Rattle.text.specs.Decimal.{decimal}
 use Rattle.text.specs.Lines.{numbered, refused, each}
+use Rattle.text.specs.Text.{ascii}
 use Rattle.job.specs.declared.Status.the-variants.{Succeeded, Failed}
 use Rattle.job.specs.declared.End.{End}
 use Rattle.job.specs.declared.End.the-variants.{Open, MayEnd}
@@ -21,15 +22,15 @@ comesNext next leaf = eqb (next / 2 ^ leaf % 2) 1
 abbrev pub leafText : ℕ → ℕ → List ℕ
 leafText next leaf = cond (comesNext next leaf) (32 ∷ decimal leaf) []
 
--- `open`, `may end succeeded`, `may end failed`
+-- how the run stands
 abbrev pub endLine : End → List ℕ
-endLine Open = 111 ∷ 112 ∷ 101 ∷ 110 ∷ 10 ∷ []
-endLine (MayEnd Succeeded) = 109 ∷ 97 ∷ 121 ∷ 32 ∷ 101 ∷ 110 ∷ 100 ∷ 32 ∷ 115 ∷ 117 ∷ 99 ∷ 99 ∷ 101 ∷ 101 ∷ 100 ∷ 101 ∷ 100 ∷ 10 ∷ []
-endLine (MayEnd Failed) = 109 ∷ 97 ∷ 121 ∷ 32 ∷ 101 ∷ 110 ∷ 100 ∷ 32 ∷ 102 ∷ 97 ∷ 105 ∷ 108 ∷ 101 ∷ 100 ∷ 10 ∷ []
+endLine Open = ascii "open\n"
+endLine (MayEnd Succeeded) = ascii "may end succeeded\n"
+endLine (MayEnd Failed) = ascii "may end failed\n"
 
 -- `next` and the leaves, of which a mask of 64 bits can tell 64; then the end
 unfoldable pub toldLines : Told → List ℕ
-toldLines t = (110 ∷ 101 ∷ 120 ∷ 116 ∷ []) ++ (each (leafText (t .next)) 0 64 ++ (10 ∷ endLine (t .end)))
+toldLines t = ascii "next" ++ (each (leafText (t .next)) 0 64 ++ (10 ∷ endLine (t .end)))
 
 abbrev pub answerLines : Answer → List ℕ
 answerLines (answer.Told t) = toldLines t

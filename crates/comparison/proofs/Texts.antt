@@ -7,7 +7,7 @@ use native.Mathlib.Omega.{arith}
 use lib.Dec.{eqb}
 use lib.ListN.{length, take, drop, length-append, length-take}
 use Rattle.text.specs.Decimal.{decimal}
-use Rattle.text.specs.Text.{empty, pushed, appended, textOf}
+use Rattle.text.specs.Text.{ascii, empty, pushed, appended, textOf}
 use Rattle.text.specs.declared.Text.{Text}
 use Rattle.text.proofs.Texts.{appended-both, appended-one, appended-empty}
 use Rattle.text.proofs.Decimals.{decimal-length}
@@ -21,14 +21,14 @@ use Rattle.comparison.proofs.Vectors.{named-says}
 
 module _ (t : Text) (group : Group) where
   pub difference-put : (name : List ℕ) (d : Difference)
-      → pushed (appended (appended (appended (appended (appended (appended (appended (appended (appended t (titleOf group)) (58 ∷ 32 ∷ 118 ∷ 101 ∷ 99 ∷ 116 ∷ 111 ∷ 114 ∷ 32 ∷ [])) (decimal (d .number))) (32 ∷ 40 ∷ [])) name) (41 ∷ 58 ∷ 32 ∷ 101 ∷ 120 ∷ 112 ∷ 101 ∷ 99 ∷ 116 ∷ 101 ∷ 100 ∷ 32 ∷ [])) (decimal (d .expected))) (44 ∷ 32 ∷ 102 ∷ 111 ∷ 117 ∷ 110 ∷ 100 ∷ 32 ∷ [])) (decimal (d .found))) 10
+      → pushed (appended (appended (appended (appended (appended (appended (appended (appended (appended t (titleOf group)) (ascii ": vector ")) (decimal (d .number))) (ascii " (")) name) (ascii "): expected ")) (decimal (d .expected))) (ascii ", found ")) (decimal (d .found))) 10
       ≡ appended t (differenceLine group name d)
   unfolding differenceLine
   difference-put name d =
       rw (appended-both, appended-both, appended-both, appended-both, appended-both, appended-both, appended-both, appended-both, appended-both, appended-one)
 
   pub counts-put : (c : Comparison)
-      → appended (appended (appended (appended (appended (appended t (titleOf group)) (58 ∷ 32 ∷ [])) (decimal (c .vectors))) (32 ∷ 118 ∷ 101 ∷ 99 ∷ 116 ∷ 111 ∷ 114 ∷ 115 ∷ 44 ∷ 32 ∷ [])) (decimal (c .agree))) (32 ∷ 97 ∷ 103 ∷ 114 ∷ 101 ∷ 101 ∷ 10 ∷ [])
+      → appended (appended (appended (appended (appended (appended t (titleOf group)) (ascii ": ")) (decimal (c .vectors))) (ascii " vectors, ")) (decimal (c .agree))) (ascii " agree\n")
       ≡ appended t (countsLine group c)
   unfolding countsLine
   counts-put c = rw (appended-both, appended-both, appended-both, appended-both, appended-both)

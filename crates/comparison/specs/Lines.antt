@@ -5,43 +5,44 @@ use mathlib.Core.List.{List, [], _∷_, _++_}
 use Prim.Native.Nat.{ℕ}
 use lib.Dec.{eqb}
 use Rattle.text.specs.Decimal.{decimal}
+use Rattle.text.specs.Text.{ascii}
 use Rattle.vectors.specs.declared.Group.{Group}
 use Rattle.vectors.specs.declared.Group.the-variants.{Files, Runs, Verdicts}
 use Rattle.comparison.specs.Data.{nameAt, comparedOf}
 use Rattle.comparison.specs.declared.Difference.{Difference}
 use Rattle.comparison.specs.declared.Comparison.{Comparison}
 
--- `files`, `runs`, `verdicts`
+-- the group's name, which is its data file's too
 abbrev pub titleOf : Group → List ℕ
-titleOf Files = 102 ∷ 105 ∷ 108 ∷ 101 ∷ 115 ∷ []
-titleOf Runs = 114 ∷ 117 ∷ 110 ∷ 115 ∷ []
-titleOf Verdicts = 118 ∷ 101 ∷ 114 ∷ 100 ∷ 105 ∷ 99 ∷ 116 ∷ 115 ∷ []
+titleOf Files = ascii "files"
+titleOf Runs = ascii "runs"
+titleOf Verdicts = ascii "verdicts"
 
 -- TITLE: vector NUMBER (NAME): expected E, found F
 unfoldable pub differenceLine : Group → List ℕ → Difference → List ℕ
 differenceLine group name d =
     titleOf group
-    ++ ((58 ∷ 32 ∷ 118 ∷ 101 ∷ 99 ∷ 116 ∷ 111 ∷ 114 ∷ 32 ∷ [])
+    ++ ((ascii ": vector ")
     ++ (decimal (d .number)
-    ++ ((32 ∷ 40 ∷ [])
+    ++ ((ascii " (")
     ++ (name
-    ++ ((41 ∷ 58 ∷ 32 ∷ 101 ∷ 120 ∷ 112 ∷ 101 ∷ 99 ∷ 116 ∷ 101 ∷ 100 ∷ 32 ∷ [])
+    ++ ((ascii "): expected ")
     ++ (decimal (d .expected)
-    ++ ((44 ∷ 32 ∷ 102 ∷ 111 ∷ 117 ∷ 110 ∷ 100 ∷ 32 ∷ []) ++ (decimal (d .found) ++ (10 ∷ [])))))))))
+    ++ (ascii ", found " ++ (decimal (d .found) ++ (10 ∷ [])))))))))
 
 -- TITLE: N vectors, M agree
 unfoldable pub countsLine : Group → Comparison → List ℕ
 countsLine group c =
     titleOf group
-    ++ ((58 ∷ 32 ∷ [])
+    ++ ((ascii ": ")
     ++ (decimal (c .vectors)
-    ++ ((32 ∷ 118 ∷ 101 ∷ 99 ∷ 116 ∷ 111 ∷ 114 ∷ 115 ∷ 44 ∷ 32 ∷ []) ++ (decimal (c .agree) ++ (32 ∷ 97 ∷ 103 ∷ 114 ∷ 101 ∷ 101 ∷ 10 ∷ [])))))
+    ++ (ascii " vectors, " ++ (decimal (c .agree) ++ (ascii " agree\n")))))
 
 -- TITLE: the data file is damaged after these
 unfoldable pub damageLine : Group → List ℕ
 damageLine group =
     titleOf group
-    ++ (58 ∷ 32 ∷ 116 ∷ 104 ∷ 101 ∷ 32 ∷ 100 ∷ 97 ∷ 116 ∷ 97 ∷ 32 ∷ 102 ∷ 105 ∷ 108 ∷ 101 ∷ 32 ∷ 105 ∷ 115 ∷ 32 ∷ 100 ∷ 97 ∷ 109 ∷ 97 ∷ 103 ∷ 101 ∷ 100 ∷ 32 ∷ 97 ∷ 102 ∷ 116 ∷ 101 ∷ 114 ∷ 32 ∷ 116 ∷ 104 ∷ 101 ∷ 115 ∷ 101 ∷ 10 ∷ [])
+    ++ (ascii ": the data file is damaged after these\n")
 
 abbrev pub differenceLines : Group → List ℕ → Difference → List ℕ
 differenceLines group s d = cond (eqb (d .number) 0) [] (differenceLine group (nameAt s (d .at)) d)

@@ -8,7 +8,8 @@ use Rattle.plan.specs.declared.Layout.{Layout}
 use Rattle.plan.specs.declared.Reading.the-variants.{Accepted, Refused}
 use Rattle.job.specs.Job.{noJob, startOn, startOf, planOf}
 use Rattle.job.specs.Offer.{Real, offer, started}
-use Rattle.job.specs.Demand2.{Demand2}
+use Rattle.state.specs.State.{entriesFrom}
+use Rattle.job.specs.Demand2.{Starts, Demand2}
 use Rattle.job.specs.declared.Job.{Job}
 use Rattle.job.proofs.Good.{Good}
 use Rattle.job.proofs.Standing.{Fine, refuses-so, honest, started-fine, offered-fine}
@@ -24,9 +25,13 @@ no-job-real r =
     let plan : planOf noJob ≡ r .file = subst (λ (j : Job). planOf j ≡ r .file) (sym (r .is)) (f .good .plan) in
     not-empty (r .layout) (ap readOf plan ∙ r .accepted)
 
+starts-so : (s : List ℕ) (l : Layout) → readOf s ≡ Accepted l → Starts (started s l) (startOf s)
+unfolding entriesFrom
+starts-so s l h = rw h (record { number = refl; next = refl; end = refl; job = refl; fresh = refl })
+
 pub demand2 : Demand2
 demand2 = record {
-  starts = λ s l h. rw h (record { number = refl; next = refl; end = refl; job = refl });
+  starts = starts-so;
   turns-away = λ s n h. refuses-so n noJob (startOf s) (ap (startOn s) h);
   honest = λ s l h es. honest s l h (offer (started s l) es) (offered-fine s l h es (started s l) (started-fine s l h));
   false-jobs = false-refused;

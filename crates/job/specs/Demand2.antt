@@ -46,12 +46,13 @@ pub record Honest (P : Process) (x : Standing) : Type 0 where
   -- (iv) a leaf may come next exactly where some entry of it continues the record
   pub next : (n : ℕ) → (x .told .next / 2 ^ n % 2 ≡ 1) ↔ ((s : Status) × Begins P (recordOf (x .job) ++ (entry n s ∷ [])))
 
--- A start that is not refused: what it tells, and the fresh job.
+-- A start that is not refused: what it tells, and the fresh job, whose record is empty.
 pub record Starts (x : Standing) (t : Taken) : Type 0 where
   pub number : numberOf (t .answer) ≡ 0
   pub next : nextOf (t .answer) ≡ x .told .next
   pub end : endOf (t .answer) ≡ endNumber (x .told .end)
   pub job : t .job ≡ x .job
+  pub fresh : recordOf (t .job) ≡ []
 
 pub record Demand2 : Type 0 where
   -- a start on a plan file that is accepted, and on any other

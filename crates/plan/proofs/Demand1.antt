@@ -12,6 +12,7 @@ use Rattle.plan.proofs.Lengths.{at-most}
 use Rattle.plan.proofs.Accepted.{Laid, accepted-laid, most-bytes}
 use Rattle.plan.proofs.Exactly.{accepted-exactly, refused-exactly, accepted-holds}
 use Rattle.plan.proofs.Prefix.{beginning-decides}
+use Rattle.plan.proofs.InBlocks.{in-blocks}
 use Rattle.plan.proofs.Tree.{drawn}
 
 laid : (s : List ℕ) (l : Layout) → readOf s ≡ Accepted l → Laid 10 9 s l
@@ -36,6 +37,7 @@ pub demand1 : Demand1
 demand1 = record {
   accepts = λ s bytes. accepted-exactly 10 9 (omega arith) s bytes;
   refuses = λ s bytes n. refused-exactly 10 9 (omega arith) s bytes n;
+  blocks = in-blocks;
   holds = λ s l h. accepted-holds 10 9 (omega arith) s l h;
   most = λ s l h. most-bytes 10 9 s l (laid s l h);
   row = λ s l h. in-a-row s l (laid s l h);

@@ -7,5 +7,6 @@ pub mod Steps
 pub mod Exactly
 pub mod Prefix
 pub mod Tree
+pub mod InBlocks
 pub mod Demand1
 pub mod Inside

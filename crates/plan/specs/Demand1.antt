@@ -1,12 +1,13 @@
 -- Demand 1 for plan files: what the reader's answer says of every list of bytes. `demand1` in proofs/ proves it, and the contract of
 -- `read` equates its result with `readOf`.
 use mathlib.Core.Path.{_≡_}
-use mathlib.Core.List.{List}
+use mathlib.Core.List.{List, _++_}
 use mathlib.Core.Logic.{_↔_}
 use Prim.Native.Nat.{ℕ, _+_, _-_, _≤_, _<_}
 use lib.ListN.{length, take}
 use Rattle.process.specs.Leaves.{AsWritten, HasLeaf, Distinct}
 use Rattle.process.specs.Depth.{Flat}
+use Rattle.blocks.specs.Block.{block}
 use Rattle.nodes.specs.Nodes.{count, form, Under}
 use Rattle.plan.specs.PlanFile.{Bytes, Bodies, PlanFile}
 use Rattle.plan.specs.Refusals.{Broken}
@@ -22,6 +23,10 @@ pub record InARow (s : List ℕ) (l : Layout) : Type 0 where
   pub nodes : l .nodes .at ≡ endOf (l .pairs) + 4
   pub rule : l .rule .at ≡ endOf (l .nodes) + 4
   pub end : endOf (l .rule) ≡ length s
+
+-- an accepted file is written as the blocks of the four bodies that its layout names
+abbrev pub InBlocks : List ℕ → Layout → Type 0
+InBlocks s l = s ≡ block 1 (bytesOf s (l .types)) ++ (block 2 (bytesOf s (l .pairs)) ++ (block 3 (bytesOf s (l .nodes)) ++ block 4 (bytesOf s (l .rule))))
 
 -- the four bodies of an accepted file have the lengths and the contents that they may have
 abbrev pub Holds : ℕ → ℕ → List ℕ → Layout → Type 0
@@ -41,7 +46,8 @@ pub record Demand1 : Type 0 where
   pub accepts : (s : List ℕ) → Bytes s → ((l : Layout) × (readOf s ≡ Accepted l)) ↔ PlanFile 10 9 s
   -- and refused by a number exactly where that is document 01's number for what is wrong with it
   pub refuses : (s : List ℕ) → Bytes s → (n : ℕ) → (readOf s ≡ Refused n) ↔ Broken 10 9 s n
-  -- the bodies of an accepted file hold what document 01 permits
+  -- the bodies of an accepted file are those of its blocks, and hold what document 01 permits
+  pub blocks : (s : List ℕ) → Bytes s → (l : Layout) → readOf s ≡ Accepted l → InBlocks s l
   pub holds : (s : List ℕ) (l : Layout) → readOf s ≡ Accepted l → Holds 10 9 s l
   -- an accepted file has at most 360 bytes, and its bodies lie in a row
   pub most : (s : List ℕ) (l : Layout) → readOf s ≡ Accepted l → length s ≤ 360

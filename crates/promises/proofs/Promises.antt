@@ -3,11 +3,12 @@ use Rattle.plan.proofs.Demand1.{demand1}
 use Rattle.job.proofs.Demand2.{demand2}
 use Rattle.judge.proofs.Demand3.{demand3}
 use Rattle.promises.specs.Promises.{Promises}
+use Rattle.promises.proofs.Areas.{leaves}
 use Rattle.promises.proofs.Refused.{demand-1}
 
 pub promises : Promises
 promises = record {
   refused = demand-1;
   runner = record { starts = demand2 .starts; honest = demand2 .honest };
-  verdict = record { rule = λ s l h. demand1 .holds s l h .rule-holds .holds; says = demand3 .says };
+  verdict = record { rule = λ s l h. demand1 .holds s l h .rule-holds .holds; says = demand3 .says; leaves = leaves };
 }

@@ -186,6 +186,7 @@ module _ (s work work′ old new : List ℕ) (v : Judgement) (bytes : Bytes s) (
 pub demand-1 : Demand1
 demand-1 = record {
   reading = files;
+  bodies = λ s bytes l h. (demand1 .blocks s bytes l h, demand1 .holds s l h);
   starting = λ s bytes. subst (Files s) (sym (start-number s (reader.readOf s))) (files s bytes);
   no-start = λ s h. start-refused s (reader.readOf s) h;
   no-job = demand2 .no-job;

@@ -8,7 +8,10 @@ use Prim.Native.Nat.{ℕ, _≤_, _<_}
 use lib.ListN.{length}
 use Rattle.plan.specs.PlanFile.{Bytes, PlanFile}
 use Rattle.plan.specs.Refusals.{Broken}
+use Rattle.plan.specs.Demand1.{InBlocks, Holds}
 use Rattle.plan.specs.Reading as reader
+use Rattle.plan.specs.declared.Layout.{Layout}
+use Rattle.plan.specs.declared.Reading.the-variants.{Accepted}
 use Rattle.state.specs.declared.Entry.{Entry}
 use Rattle.job.specs.Job.{noJob, startOf, takeOf}
 use Rattle.job.specs.Numbers as runner
@@ -48,6 +51,8 @@ pub record Areas (s work work′ old new : List ℕ) (v : Judgement) : Type 0 wh
 pub record Demand1 : Type 0 where
   -- reading a file
   pub reading : (s : List ℕ) → Bytes s → Files s (reader.numberOf (reader.readOf s))
+  -- what is accepted is read as it stands: the bodies that are found are those of the file's four blocks, and in order
+  pub bodies : (s : List ℕ) → Bytes s → (l : Layout) → reader.readOf s ≡ Accepted l → InBlocks s l × Holds 10 9 s l
   -- starting a job from it; beside a refusal stands a job that is none
   pub starting : (s : List ℕ) → Bytes s → Files s (runner.numberOf (startOf s .answer))
   pub no-start : (s : List ℕ) → 1 ≤ runner.numberOf (startOf s .answer) → startOf s .job ≡ noJob

@@ -3,6 +3,7 @@ use mathlib.Core.List.{List, [], _∷_, _++_}
 use Prim.Native.Nat.{ℕ}
 use Rattle.text.specs.Decimal.{decimal}
 use Rattle.text.specs.Lines.{line, numbered, refused}
+use Rattle.text.specs.Text.{ascii}
 use Rattle.plan.specs.declared.Reading.{Reading}
 use Rattle.plan.specs.declared.Reading.the-variants as reading
 use Rattle.state.specs.declared.Entry.{Entry}
@@ -10,17 +11,14 @@ use Rattle.judge.specs.Shown.{shownEntries}
 use Rattle.judge.specs.declared.Judgement.{Judgement}
 use Rattle.judge.specs.declared.Judgement.the-variants.{Consistent, Violated, Refused}
 
--- The text "consistent".
 abbrev pub consistent : List ℕ
-consistent = 99 ∷ 111 ∷ 110 ∷ 115 ∷ 105 ∷ 115 ∷ 116 ∷ 101 ∷ 110 ∷ 116 ∷ []
+consistent = ascii "consistent"
 
--- The text "violated".
 abbrev pub violated : List ℕ
-violated = 118 ∷ 105 ∷ 111 ∷ 108 ∷ 97 ∷ 116 ∷ 101 ∷ 100 ∷ []
+violated = ascii "violated"
 
--- The text "accepted".
 abbrev pub accepted : List ℕ
-accepted = 97 ∷ 99 ∷ 99 ∷ 101 ∷ 112 ∷ 116 ∷ 101 ∷ 100 ∷ []
+accepted = ascii "accepted"
 
 -- "leaf and outcome"
 abbrev pub entryLine : Entry → List ℕ

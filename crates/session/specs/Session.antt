@@ -12,6 +12,7 @@ use Rattle.session.specs.Line.{freshLine, lineAfter, lineOf, begun, entr
 use Rattle.session.specs.declared.line.Found.{Found}
 use Rattle.session.specs.declared.line.Found.the-variants as found
 use Rattle.session.specs.declared.Session.{Session}
+use Rattle.text.specs.Text.{ascii}
 use Rattle.answers.specs.Lines.{answerLines}
 use Rattle.session.specs.declared.Say.{Say}
 use Rattle.session.specs.declared.Say.the-variants.{Nothing, NotAnEntry, Answer}
@@ -52,7 +53,7 @@ heardEnd s = cond (begun (s .line)) (answered s) (silent s)
 -- What is written: nothing, the line `not an entry`, or the lines of the runner's answer.
 abbrev pub sayLines : Say → List ℕ
 sayLines Nothing = []
-sayLines NotAnEntry = 110 ∷ 111 ∷ 116 ∷ 32 ∷ 97 ∷ 110 ∷ 32 ∷ 101 ∷ 110 ∷ 116 ∷ 114 ∷ 121 ∷ 10 ∷ []
+sayLines NotAnEntry = ascii "not an entry\n"
 sayLines (Answer a) = answerLines a
 
 -- No byte of it is a newline.

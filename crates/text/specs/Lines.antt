@@ -2,6 +2,7 @@
 use mathlib.Core.List.{List, [], _∷_, _++_}
 use Prim.Native.Nat.{ℕ, zero, suc, _+_}
 use Rattle.text.specs.Decimal.{decimal}
+use Rattle.text.specs.Text.{ascii}
 
 -- A text and a newline (10).
 abbrev pub line : List ℕ → List ℕ
@@ -11,9 +12,8 @@ line text = text ++ (10 ∷ [])
 abbrev pub numbered : List ℕ → ℕ → List ℕ
 numbered word n = word ++ (32 ∷ line (decimal n))
 
--- The text "refused".
 abbrev pub refused : List ℕ
-refused = 114 ∷ 101 ∷ 102 ∷ 117 ∷ 115 ∷ 101 ∷ 100 ∷ []
+refused = ascii "refused"
 
 -- What f gives for k numbers, from i on, one after the other.
 unfoldable pub each : (ℕ → List ℕ) → ℕ → ℕ → List ℕ

@@ -2,9 +2,17 @@
 use mathlib.Core.Bool.{cond}
 use mathlib.Core.List.{List, [], _∷_, _++_}
 use Prim.Native.Nat.{ℕ, _+_, _-_}
+use Prim.Native.String.{String}
+use Prim.Native.String as string
+use Prim.Native.Char.{code}
 use lib.Dec.{ltb}
 use lib.ListN.{length, set, replicate}
 use Rattle.text.specs.declared.Text.{Text}
+
+-- The bytes of a text in ASCII.
+abbrev pub ascii : String → List ℕ
+ascii string.[] = []
+ascii (string._∷_ c s) = code c ∷ ascii s
 
 -- The empty text.
 abbrev pub empty : Text

@@ -6,7 +6,7 @@ use mathlib.Core.List.{List, [], _∷_, List·Memᴰ}
 use mathlib.Core.Logic.{_↔_}
 use Prim.Native.Nat.{ℕ, _≤_}
 use lib.ListN.{length, take}
-use Rattle.text.specs.Text.{textOf}
+use Rattle.text.specs.Text.{ascii, textOf}
 use Rattle.text.specs.declared.Text.{Text}
 use Rattle.process.specs.Process.{Status, Run}
 use Rattle.process.specs.Figure2.{Complete}
@@ -45,8 +45,7 @@ p1 = record {
   file = 3 ∷ 0 ∷ 1 ∷ 0 ∷ 3 ∷ 1 ∷ 3 ∷ 2 ∷ 0 ∷ 2 ∷ 0 ∷ 0 ∷ 1 ∷ 15 ∷ 0 ∷ 3 ∷ 0 ∷ 0 ∷ 0 ∷ 0 ∷ 0 ∷ 1 ∷ 0 ∷ 6 ∷ 0 ∷ 1 ∷ 0 ∷ 2 ∷ 0 ∷ 3 ∷ 2 ∷ 3 ∷ 9 ∷ 0 ∷ 4 ∷ 0 ∷ 0 ∷ 2 ∷ 129 ∷ 0 ∷ 128 ∷ 2 ∷ 128 ∷ 129 ∷ 130 ∷ [];
   sets = 0 ∷ 3 ∷ 5 ∷ [];
   verdict = Consistent;
-  -- `consistent`
-  lines = 99 ∷ 111 ∷ 110 ∷ 115 ∷ 105 ∷ 115 ∷ 116 ∷ 101 ∷ 110 ∷ 116 ∷ 10 ∷ [];
+  lines = ascii "consistent\n";
 }
 
 -- P2: (0 handled by skip), then 1; types 3 3; rule "not 1, or 0"
@@ -55,11 +54,7 @@ p2 = record {
   file = 2 ∷ 0 ∷ 1 ∷ 0 ∷ 3 ∷ 3 ∷ 0 ∷ 0 ∷ 2 ∷ 0 ∷ 15 ∷ 0 ∷ 3 ∷ 0 ∷ 0 ∷ 0 ∷ 0 ∷ 1 ∷ 0 ∷ 0 ∷ 7 ∷ 0 ∷ 1 ∷ 0 ∷ 1 ∷ 0 ∷ 3 ∷ 2 ∷ 3 ∷ 4 ∷ 0 ∷ 4 ∷ 0 ∷ 1 ∷ 128 ∷ 0 ∷ 130 ∷ [];
   sets = 0 ∷ 1 ∷ 2 ∷ 3 ∷ [];
   verdict = Violated 2;
-  -- `violated 2`, `0 2`, `1 1`, `3 1`
-  lines = 118 ∷ 105 ∷ 111 ∷ 108 ∷ 97 ∷ 116 ∷ 101 ∷ 100 ∷ 32 ∷ 50 ∷ 10
-      ∷ 48 ∷ 32 ∷ 50 ∷ 10
-      ∷ 49 ∷ 32 ∷ 49 ∷ 10
-      ∷ 51 ∷ 32 ∷ 49 ∷ 10 ∷ [];
+  lines = ascii "violated 2\n0 2\n1 1\n3 1\n";
 }
 
 -- P3: throw parallel A, A always
@@ -68,9 +63,7 @@ p3 = record {
   file = 1 ∷ 0 ∷ 1 ∷ 0 ∷ 1 ∷ 0 ∷ 0 ∷ 2 ∷ 0 ∷ 9 ∷ 0 ∷ 3 ∷ 0 ∷ 2 ∷ 0 ∷ 0 ∷ 0 ∷ 0 ∷ 0 ∷ 4 ∷ 0 ∷ 1 ∷ 1 ∷ 0 ∷ 4 ∷ 0 ∷ 0 ∷ [];
   sets = 0 ∷ 1 ∷ [];
   verdict = Violated 0;
-  -- `violated 0`, `0 2`
-  lines = 118 ∷ 105 ∷ 111 ∷ 108 ∷ 97 ∷ 116 ∷ 101 ∷ 100 ∷ 32 ∷ 48 ∷ 10
-      ∷ 48 ∷ 32 ∷ 50 ∷ 10 ∷ [];
+  lines = ascii "violated 0\n0 2\n";
 }
 
 -- P4: handler with left ((A undo U), throw) and right H; A, H always, U may do either
@@ -79,8 +72,7 @@ p4 = record {
   file = 3 ∷ 0 ∷ 1 ∷ 0 ∷ 1 ∷ 3 ∷ 1 ∷ 0 ∷ 0 ∷ 2 ∷ 0 ∷ 21 ∷ 0 ∷ 3 ∷ 0 ∷ 0 ∷ 0 ∷ 0 ∷ 0 ∷ 1 ∷ 0 ∷ 6 ∷ 0 ∷ 1 ∷ 2 ∷ 0 ∷ 0 ∷ 3 ∷ 2 ∷ 3 ∷ 0 ∷ 2 ∷ 0 ∷ 7 ∷ 4 ∷ 5 ∷ 1 ∷ 0 ∷ 4 ∷ 0 ∷ 0 ∷ [];
   sets = 5 ∷ 7 ∷ [];
   verdict = Consistent;
-  -- `consistent`
-  lines = 99 ∷ 111 ∷ 110 ∷ 115 ∷ 105 ∷ 115 ∷ 116 ∷ 101 ∷ 110 ∷ 116 ∷ 10 ∷ [];
+  lines = ascii "consistent\n";
 }
 
 -- P5: ((A undo U) undo W), throw, all always; U never runs
@@ -89,8 +81,7 @@ p5 = record {
   file = 3 ∷ 0 ∷ 1 ∷ 0 ∷ 1 ∷ 1 ∷ 1 ∷ 0 ∷ 0 ∷ 2 ∷ 0 ∷ 21 ∷ 0 ∷ 3 ∷ 0 ∷ 0 ∷ 0 ∷ 0 ∷ 0 ∷ 1 ∷ 0 ∷ 6 ∷ 0 ∷ 1 ∷ 0 ∷ 2 ∷ 0 ∷ 6 ∷ 2 ∷ 3 ∷ 2 ∷ 0 ∷ 0 ∷ 3 ∷ 4 ∷ 5 ∷ 1 ∷ 0 ∷ 4 ∷ 0 ∷ 0 ∷ [];
   sets = 5 ∷ [];
   verdict = Consistent;
-  -- `consistent`
-  lines = 99 ∷ 111 ∷ 110 ∷ 115 ∷ 105 ∷ 115 ∷ 116 ∷ 101 ∷ 110 ∷ 116 ∷ 10 ∷ [];
+  lines = ascii "consistent\n";
 }
 
 -- P6: (A undo U), (B undo W), throw; W always fails, the rest always: A and B only
@@ -99,8 +90,7 @@ p6 = record {
   file = 4 ∷ 0 ∷ 1 ∷ 0 ∷ 1 ∷ 1 ∷ 1 ∷ 2 ∷ 0 ∷ 0 ∷ 2 ∷ 0 ∷ 27 ∷ 0 ∷ 3 ∷ 0 ∷ 0 ∷ 0 ∷ 0 ∷ 0 ∷ 1 ∷ 0 ∷ 6 ∷ 0 ∷ 1 ∷ 0 ∷ 2 ∷ 0 ∷ 0 ∷ 3 ∷ 0 ∷ 6 ∷ 3 ∷ 4 ∷ 3 ∷ 2 ∷ 5 ∷ 2 ∷ 0 ∷ 0 ∷ 3 ∷ 6 ∷ 7 ∷ 1 ∷ 0 ∷ 4 ∷ 0 ∷ 0 ∷ [];
   sets = 5 ∷ [];
   verdict = Consistent;
-  -- `consistent`
-  lines = 99 ∷ 111 ∷ 110 ∷ 115 ∷ 105 ∷ 115 ∷ 116 ∷ 101 ∷ 110 ∷ 116 ∷ 10 ∷ [];
+  lines = ascii "consistent\n";
 }
 
 -- P7: u alone, always, with the pair (a,u); rule "a or not a"
@@ -109,9 +99,7 @@ p7 = record {
   file = 2 ∷ 0 ∷ 1 ∷ 0 ∷ 1 ∷ 1 ∷ 2 ∷ 0 ∷ 2 ∷ 0 ∷ 0 ∷ 1 ∷ 3 ∷ 0 ∷ 3 ∷ 0 ∷ 0 ∷ 1 ∷ 0 ∷ 4 ∷ 0 ∷ 4 ∷ 0 ∷ 0 ∷ 0 ∷ 128 ∷ 130 ∷ [];
   sets = 2 ∷ [];
   verdict = Violated 2;
-  -- `violated 2`, `0 1`
-  lines = 118 ∷ 105 ∷ 111 ∷ 108 ∷ 97 ∷ 116 ∷ 101 ∷ 100 ∷ 32 ∷ 50 ∷ 10
-      ∷ 48 ∷ 32 ∷ 49 ∷ 10 ∷ [];
+  lines = ascii "violated 2\n0 1\n";
 }
 
 -- P8: A then A, type 3
@@ -120,9 +108,7 @@ p8 = record {
   file = 1 ∷ 0 ∷ 1 ∷ 0 ∷ 3 ∷ 0 ∷ 0 ∷ 2 ∷ 0 ∷ 9 ∷ 0 ∷ 3 ∷ 0 ∷ 0 ∷ 0 ∷ 0 ∷ 0 ∷ 0 ∷ 0 ∷ 3 ∷ 0 ∷ 1 ∷ 1 ∷ 0 ∷ 4 ∷ 0 ∷ 0 ∷ [];
   sets = 0 ∷ 1 ∷ [];
   verdict = Violated 0;
-  -- `violated 0`, `0 2`
-  lines = 118 ∷ 105 ∷ 111 ∷ 108 ∷ 97 ∷ 116 ∷ 101 ∷ 100 ∷ 32 ∷ 48 ∷ 10
-      ∷ 48 ∷ 32 ∷ 50 ∷ 10 ∷ [];
+  lines = ascii "violated 0\n0 2\n";
 }
 
 abbrev pub triedPlans : List TriedPlan
