@@ -478,6 +478,19 @@ def write_programs(cells, write, of_course):
         write(f'tests/stored/{name}/stdout', writes)
 
 
+def write_differences(write, runs):
+    """the stored case of `compare` whose vectors do not all agree, and whose data files are not all whole: a second vector is missing, a byte is left over"""
+    case = 'tests/stored/compare-differs/'
+    p2 = dict(plans_of_document())['P2']
+    write(case + 'program', b'compare\n')
+    write(case + 'data/files', data_of([('P1', bytes([0]) + P1), ('a wrong number', bytes([7]) + P1), ('no file', bytes([1])), ('another', bytes([2]) + P1)]))
+    write(case + 'data/runs', (2).to_bytes(4, 'little') + data_of(runs[:1])[4:])
+    write(case + 'data/verdicts', data_of([('P2', (0).to_bytes(4, 'little') + bytes([0]) + p2)]) + bytes(1))
+    write(case + 'stdout', b'files: vector 2 (a wrong number): expected 7, found 0\nfiles: 4 vectors, 2 agree\n'
+          b'runs: 1 vectors, 1 agree\nruns: the data file is damaged after these\n'
+          b'verdicts: vector 1 (P2): expected 0, found 65538\nverdicts: 1 vectors, 0 agree\nverdicts: the data file is damaged after these\n')
+
+
 def main():
     if len(sys.argv) != 2:
         sys.exit(__doc__)
@@ -526,6 +539,7 @@ def main():
     write('crates/compare/data/verdicts', data_of(verdicts))
     counts = ''.join(f'{group}: {n} vectors, {n} agree\n' for group, n in (('files', len(vectors)), ('runs', len(runs)), ('verdicts', len(verdicts))))
     write('crates/compare/stdout', counts.encode())
+    write_differences(write, runs)
     write_programs(cells, write, {name.lower(): file for name, file in judged} | {'broken': whole([3], (), NESTED)})
     counts = {number: sum(n == number for _, n, _ in vectors) for number in range(10)}
     print(f'files: {len(vectors)} vectors, {len(files)} bytes; of each number:', ', '.join(f'{k}: {v}' for k, v in counts.items()))

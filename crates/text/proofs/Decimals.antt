@@ -11,7 +11,7 @@ use borrow.Author.Tests.{lt-ltb, le-ltb, ltb-true, ltb-false}
 use Rattle.text.specs.Text.{pushed, appended}
 use Rattle.text.specs.declared.Text.{Text}
 use Rattle.text.proofs.Texts.{appended-both, appended-one}
-use Rattle.text.specs.Decimal.{Decimal, digit, more, digits, decimal}
+use Rattle.text.specs.Decimal.{Decimal, digit, more, digits, decimal, Spells}
 
 -- the tenth part has a digit less
 tenth-below : (k n : ℕ) → n < 10 ^ suc k → n / 10 < 10 ^ k
@@ -55,8 +55,8 @@ digits-right zero n h = digit h (digits-small zero n h)
 digits-right (suc k) n h = right-by (suc k) n (ltb n 10) refl (digits-right k (n / 10) (tenth-below (suc k) n h))
 
 -- the digits of a number are its decimal text
-pub decimal-right : (n : ℕ) → n < 10 ^ 20 → Decimal n (decimal n)
-decimal-right n h = digits-right 19 n h
+pub spells : Spells
+spells = record { right = λ n h. digits-right 19 n h }
 
 -- how many digits there are: at most as many as are asked for, and as the number has
 short-by : (j m n : ℕ) (small : Bool) → ltb n 10 ≡ small → length (digits j (n / 10)) ≤ m → length (digits (suc j) n) ≤ suc m
