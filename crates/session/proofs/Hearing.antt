@@ -1,13 +1,17 @@
 -- What is heard of the input: one turn of the loop over the bytes of a read, and a whole line.
 use mathlib.Core.Path.{_≡_, refl}
+use mathlib.Core.Bool.{Bool, true, false, cond}
 use mathlib.Core.List.{List, [], _∷_}
-use Prim.Native.Nat.{ℕ, _+_, _≤_, _<_}
+use Prim.Native.Nat.{ℕ, _+_, _-_, _*_, _≤_, _<_}
 use native.Mathlib.Numerals.{add-one}
+use lib.Dec.{ltb, eqb}
 use lib.ListN.{length, getD, drop, drop-of-length-le}
 use lib.Seq.{drop-cons}
 use Rattle.job.specs.declared.Job.{Job}
-use Rattle.session.specs.Line.{freshLine, lineAfter, lineOf}
-use Rattle.session.specs.Session.{heardByte, heardAll, OneLine, AnswersLines}
+use Rattle.session.specs.Line.{digitAfter, freshLine, lineAfter, lineOf, begunWith, begun, entryIn}
+use Rattle.session.specs.Session.{nextLine, answeredTo, heardByte, heardAll, heardEnd, OneLine, AnswersLines}
+use Rattle.session.specs.declared.line.Number.{Number}
+use Rattle.session.specs.declared.line.Number.the-variants.{Unwritten, Is, Wrong}
 use Rattle.session.specs.declared.line.Line.{Line}
 use Rattle.session.specs.declared.Session.{Session}
 
@@ -26,5 +30,41 @@ unfolding heardAll lineOf
 heard-line j l [] one = refl
 heard-line j l (b ∷ bs) one = rw (one .0) (heard-line j (lineAfter l b) bs (one .1))
 
+-- a line has begun once a byte of it has come
+begun-blank : (n : Number) → begunWith n true ≡ true
+begun-blank Unwritten = refl
+begun-blank (Is n) = refl
+begun-blank Wrong = refl
+
+abbrev Begun : Number → Type 0
+Begun n = begunWith n false ≡ true
+
+-- what holds of both sides of a choice holds of it
+either : {A : Type 0} (F : A → Type 0) (t : Bool) {x y : A} → F x → F y → F (cond t x y)
+either F true p q = p
+either F false p q = q
+
+begun-digit : (n : Number) (b : ℕ) → Begun (digitAfter n b)
+begun-digit Unwritten b = either Begun (ltb b 48) refl (either Begun (ltb 57 b) refl refl)
+begun-digit (Is n) b = either Begun (eqb n 0) refl (either Begun (ltb b 48) refl (either Begun (ltb 57 b) refl (either Begun (ltb 255 (10 * n + (b - 48))) refl refl)))
+begun-digit Wrong b = refl
+
+begun-after : (l : Line) (b : ℕ) → begun (lineAfter l b) ≡ true
+begun-after l b = go (l .blank) (eqb b 32) refl refl
+  where
+    go : (x y : Bool) → l .blank ≡ x → eqb b 32 ≡ y → begun (lineAfter l b) ≡ true
+    go true y e f = rw e (begun-blank (l .leaf))
+    go false true e f = rw (e, f) (begun-blank (l .leaf))
+    go false false e f = rw (e, f) (begun-digit (l .leaf) b)
+
+begun-line : (l : Line) (bs : List ℕ) → begun l ≡ true → begun (lineOf l bs) ≡ true
+unfolding lineOf
+begun-line l [] h = h
+begun-line l (b ∷ bs) h = begun-line (lineAfter l b) bs (begun-after l b)
+
+last : (j : Job) (b : ℕ) (line : List ℕ) → OneLine (b ∷ line) → heardEnd (heardAll (nextLine j) (b ∷ line)) ≡ answeredTo j (entryIn (lineOf freshLine (b ∷ line)))
+unfolding lineOf
+last j b line one = rw (heard-line j freshLine (b ∷ line) one, begun-line (lineAfter freshLine b) line (begun-after freshLine b))
+
 pub answers-lines : AnswersLines
-answers-lines = record { quiet = λ j line b h. rw h; answer = λ j line one. rw (heard-line j freshLine line one) }
+answers-lines = record { quiet = λ j line b h. rw h; answer = λ j line one. rw (heard-line j freshLine line one); last-line = last; no-line = λ j. refl }

@@ -65,3 +65,6 @@ OneLine (b ∷ bs) = (eqb b 10 ≡ false) × OneLine bs
 pub record AnswersLines : Type 0 where
   pub quiet : (j : Job) (line : List ℕ) (b : ℕ) → eqb b 10 ≡ false → heardByte (heardAll (nextLine j) line) b .say ≡ Nothing
   pub answer : (j : Job) (line : List ℕ) → OneLine line → heardByte (heardAll (nextLine j) line) 10 ≡ answeredTo j (entryIn (lineOf freshLine line))
+  -- the end of the input ends a line of which a byte has come, and no other
+  pub last-line : (j : Job) (b : ℕ) (line : List ℕ) → OneLine (b ∷ line) → heardEnd (heardAll (nextLine j) (b ∷ line)) ≡ answeredTo j (entryIn (lineOf freshLine (b ∷ line)))
+  pub no-line : (j : Job) → heardEnd (nextLine j) ≡ silent (nextLine j)
