@@ -1,7 +1,7 @@
 -- A runner's lines, put into a text part by part; and all of them have room in one.
-use mathlib.Core.Path.{_≡_, refl, sym, ap, _∙_}
+use mathlib.Core.Path.{_≡_, refl}
 use mathlib.Core.Bool.{Bool, true, false}
-use mathlib.Core.List.{List, [], _∷_, _++_}
+use mathlib.Core.List.{[], _∷_}
 use Prim.Native.Nat.{ℕ, _≤_, _<_}
 use native.Mathlib.Omega.{arith}
 use lib.ListN.{length, length-append}
@@ -16,8 +16,6 @@ use Rattle.job.specs.declared.Status.the-variants.{Succeeded, Failed}
 use Rattle.job.specs.declared.End.{End}
 use Rattle.job.specs.declared.End.the-variants.{Open, MayEnd}
 use Rattle.job.specs.declared.Told.{Told}
-use Rattle.job.specs.declared.Answer.{Answer}
-use Rattle.job.specs.declared.Answer.the-variants as answer
 use Rattle.answers.specs.Lines.{comesNext, leafText, endLine, toldLines}
 
 pub leaf-comes : (t : Text) (next leaf : ℕ) → comesNext next leaf ≡ true → appended (pushed t 32) (decimal leaf) ≡ appended t (leafText next leaf)

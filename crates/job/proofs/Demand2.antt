@@ -5,14 +5,13 @@ use Prim.Native.Nat.{ℕ}
 use native.Mathlib.Omega.{arith}
 use Rattle.plan.specs.Reading.{readOf}
 use Rattle.plan.specs.declared.Layout.{Layout}
-use Rattle.plan.specs.declared.Reading.the-variants.{Accepted, Refused}
+use Rattle.plan.specs.declared.Reading.the-variants.{Accepted}
 use Rattle.job.specs.Job.{noJob, startOn, startOf, planOf}
 use Rattle.job.specs.Offer.{Real, offer, started}
 use Rattle.state.specs.State.{entriesFrom}
 use Rattle.job.specs.Demand2.{Starts, Demand2}
 use Rattle.job.specs.declared.Job.{Job}
-use Rattle.job.proofs.Good.{Good}
-use Rattle.job.proofs.Standing.{Fine, refuses-so, honest, started-fine, offered-fine}
+use Rattle.job.proofs.Standing.{refuses-so, honest, started-fine, offered-fine}
 use Rattle.job.proofs.Real.{false-refused, never-stalls}
 
 -- no file is empty

@@ -1,14 +1,13 @@
 -- A job that passes the checks of an entry is one that a start and entries give: its own record, offered to the fresh job of its plan,
 -- leads back to it. So a job that none gives is refused.
-use mathlib.Core.Path.{_≡_, refl, sym, ap, ap₂, subst, _∙_}
+use mathlib.Core.Path.{_≡_, refl, sym, ap, subst, _∙_}
 use mathlib.Core.Bool.{Bool, true, false, cond, true≢false}
-use mathlib.Core.List.{List, [], _∷_, _++_, append-assoc}
+use mathlib.Core.List.{List, [], _∷_, _++_}
 use mathlib.Core.Logic.{_⊎_, inl, inr}
 use Prim.Native.Nat.{ℕ, zero, suc, _+_, _-_, _*_, _≤_, _<_}
-use native.Mathlib.Numerals.{add-one}
 use native.Mathlib.Omega.{arith}
 use lib.Dec.{ltb, eqb}
-use lib.ListN.{length, getD, set, take, replicate, length-set, length-take}
+use lib.ListN.{length, getD, set, replicate, length-set}
 use lib.Seq.{ext-getD, getD-set-same, getD-set-other, length-take-le}
 use borrow.Author.Tests.{ltb-true, ltb-false, eqb-true, eqb-false}
 use Rattle.blocks.proofs.Bounded.{decide}
@@ -18,7 +17,7 @@ use Rattle.plan.specs.declared.Reading.{Reading}
 use Rattle.plan.specs.declared.Reading.the-variants as reading
 use Rattle.state.specs.State.{toldBy, mayCome, freshTable, replay, entryAt, entriesFrom, stateAfter}
 use Rattle.job.specs.Demand2.{planProcess, Continues}
-use Rattle.job.specs.Job.{saying, refusal, freshJob, planOf, zerosFrom, tidy, withEntry, takeWith, takeOn, takeOf}
+use Rattle.job.specs.Job.{saying, refusal, planOf, tidy, withEntry, takeWith, takeOn, takeOf}
 use Rattle.job.specs.Numbers.{numberOf, Refuses}
 use Rattle.job.specs.Offer.{Standing, onAnswer, next, offer, started, recordOf, Real, Sized}
 use Rattle.state.specs.declared.Entry.{Entry}

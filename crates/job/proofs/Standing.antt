@@ -1,24 +1,21 @@
 -- Wherever a fresh job stands after some entries it is good, and what was last told is told by its table; so it is honest.
 use mathlib.Core.Path.{_≡_, refl, sym, ap, subst, _∙_}
-use mathlib.Core.Bool.{Bool, true, false, true≢false}
-use mathlib.Core.List.{List, [], _∷_, _++_}
+use mathlib.Core.Bool.{Bool, true, false}
+use mathlib.Core.List.{List, [], _∷_}
 use mathlib.Core.Logic.{_↔_, _⊎_, inl, inr}
-use Prim.Native.Nat.{ℕ, _/_, _%_, _^_}
+use Prim.Native.Nat.{ℕ}
 use native.Mathlib.Omega.{arith}
 use Rattle.blocks.proofs.Bounded.{decide}
-use Rattle.process.specs.Process.{Status, ok, fail, Process, entry, Run}
-use Rattle.process.specs.Figure2.{Complete}
+use Rattle.process.specs.Process.{Status, ok, fail, Process, Run}
 use Rattle.plan.specs.Reading.{bytesOf, readOf}
 use Rattle.plan.specs.declared.Layout.{Layout}
 use Rattle.plan.specs.declared.Reading.the-variants.{Accepted}
-use Rattle.runs.specs.Beginnings.{Begins}
 use Rattle.runs.specs.Cells.{Holds, ending, toldEnded, toldNext}
 use Rattle.runs.specs.declared.Ended.{Ended}
 use Rattle.runs.specs.declared.Ended.the-variants as ended
-use Rattle.runs.specs.declared.Told as cells
 use Rattle.state.specs.State.{toldBy, mayCome}
 use Rattle.job.specs.Job.{endOf, saying, refusal, takeOf}
-use Rattle.job.specs.Offer.{Standing, onAnswer, next, offer, started, statusNumber, statusOf, runEntry, recordOf}
+use Rattle.job.specs.Offer.{Standing, onAnswer, next, offer, started, statusNumber, recordOf}
 use Rattle.job.specs.Demand2.{planProcess, Continues, Takes, Honest}
 use Rattle.job.specs.Numbers.{numberOf, endNumber, Refuses}
 use Rattle.state.specs.declared.Entry.{Entry}

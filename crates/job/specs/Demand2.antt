@@ -5,7 +5,7 @@ use mathlib.Core.Path.{_≡_}
 use mathlib.Core.List.{List, [], _∷_, _++_}
 use mathlib.Core.Logic.{_↔_}
 use Prim.Native.Nat.{ℕ, _/_, _%_, _^_}
-use Rattle.process.specs.Process.{Status, ok, fail, Process, entry, Run}
+use Rattle.process.specs.Process.{Status, Process, entry, Run}
 use Rattle.process.specs.Figure2.{Complete}
 use Rattle.plan.specs.Reading.{bytesOf, readOf}
 use Rattle.plan.specs.Tree.{processOf}

@@ -8,8 +8,6 @@ use native.Mathlib.Omega.{arith}
 use lib.ListN.{length, take, drop}
 use lib.Seq.{take-append-seam}
 use borrow.Author.Tests.{lt-ltb, le-ltb, not-true, not-false}
-use Rattle.process.specs.Process.{Status, Run}
-use Rattle.process.specs.Figure2.{Complete}
 use Rattle.plan.specs.Reading.{bytesOf, readOf}
 use Rattle.plan.specs.declared.Layout.{Layout}
 use Rattle.plan.specs.declared.Reading.{Reading}
@@ -17,7 +15,6 @@ use Rattle.plan.specs.declared.Reading.the-variants.{Accepted}
 use Rattle.plan.specs.declared.Reading.the-variants as reading
 use Rattle.plan.proofs.Demand1.{demand1}
 use Rattle.meaning.proofs.Laws.{laws}
-use Rattle.job.specs.Demand2.{planProcess}
 use Rattle.least.specs.declared.Least.{Least}
 use Rattle.least.specs.declared.Least.the-variants.{Found, Nothing}
 use Rattle.judge.specs.Verdict.{smallest, answerOf, keepsRule, planSetsOf, workSize, recordSize, verdictOn, verdictOf, numberOf, saysConsistent, setGiven}
@@ -25,11 +22,11 @@ use Rattle.judge.specs.Shown.{shownEntries, shownRun, runSet, ShowsRun}
 use Rattle.judge.specs.Judged.{Judged, Recorded, RecordAfter}
 use Rattle.judge.specs.Demand3.{PlanRule, keeps, AllKeep, Violation, Says, Demand3}
 use Rattle.judge.specs.declared.Judgement.{Judgement}
-use Rattle.judge.specs.declared.Judgement.the-variants.{Consistent, Violated, Refused}
+use Rattle.judge.specs.declared.Judgement.the-variants.{Violated, Refused}
 use Rattle.judge.proofs.Smallest.{IsSmallest, Tells, smallest-tells}
 use Rattle.judge.proofs.PlanRuns.{left-by, run-set-listed}
 use Rattle.judge.proofs.Replay.{replays}
-use Rattle.judge.proofs.Decoded.{shown-back, shown-status}
+use Rattle.judge.proofs.Decoded.{shown-status}
 
 front-of : (xs ys : List ℕ) → length xs ≡ recordSize → take recordSize (xs ++ ys) ≡ xs
 front-of xs ys e = subst (λ (n : ℕ). take n (xs ++ ys) ≡ xs) e (take-append-seam xs ys)

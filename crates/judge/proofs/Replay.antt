@@ -3,7 +3,7 @@
 use mathlib.Core.Path.{_≡_, refl, sym, ap, subst, _∙_}
 use mathlib.Core.List.{List, [], _∷_, _++_, map, append-nil, append-assoc}
 use Prim.Native.Nat.{ℕ}
-use Rattle.process.specs.Process.{Status, ok, fail, entry, Run}
+use Rattle.process.specs.Process.{Status, Run}
 use Rattle.process.specs.Figure2.{Complete}
 use Rattle.plan.specs.Reading.{readOf}
 use Rattle.plan.specs.declared.Layout.{Layout}
@@ -14,7 +14,7 @@ use Rattle.state.specs.declared.Entry.{Entry}
 use Rattle.job.specs.Job.{takeOf}
 use Rattle.job.specs.Offer.{Standing, offer, started, statusNumber, statusOf, runEntry, recordOf}
 use Rattle.job.specs.Numbers.{numberOf, endNumber}
-use Rattle.job.specs.Demand2.{planProcess, Continues, Honest}
+use Rattle.job.specs.Demand2.{planProcess}
 use Rattle.job.proofs.Demand2.{demand2}
 use Rattle.job.proofs.Real.{offer-snoc, next-job}
 use Rattle.judge.specs.Demand3.{TakesAll, no-more, one-more, Replays}

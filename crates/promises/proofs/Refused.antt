@@ -2,14 +2,14 @@
 use mathlib.Core.Path.{_≡_, refl, sym, ap, subst, _∙_}
 use mathlib.Core.Bool.{true, false, not}
 use mathlib.Core.List.{List}
-use mathlib.Core.Logic.{_↔_, _⊎_, inl, inr}
+use mathlib.Core.Logic.{_⊎_, inl, inr}
 use Prim.Native.Nat.{ℕ, _≤_, _<_}
 use native.Mathlib.Omega.{arith}
 use lib.Dec.{ltb}
 use lib.ListN.{length}
 use borrow.Author.Tests.{ltb-true, ltb-false}
 use Rattle.blocks.proofs.Bounded.{decide}
-use Rattle.plan.specs.PlanFile.{Bytes, PlanFile}
+use Rattle.plan.specs.PlanFile.{Bytes}
 use Rattle.plan.specs.Refusals.{BlockFault, Unless, NodesFault, Broken}
 use Rattle.plan.specs.Reading as reader
 use Rattle.plan.specs.declared.Layout.{Layout}
@@ -17,7 +17,7 @@ use Rattle.plan.specs.declared.Reading.{Reading}
 use Rattle.plan.specs.declared.Reading.the-variants as reading
 use Rattle.plan.proofs.Demand1.{demand1}
 use Rattle.state.specs.declared.Entry.{Entry}
-use Rattle.job.specs.Job.{refusal, noJob, startOf, startOn, takeOf}
+use Rattle.job.specs.Job.{refusal, noJob, startOn, takeOf}
 use Rattle.job.specs.Numbers as runner
 use Rattle.job.specs.Offer.{recordOf, Real, Sized}
 use Rattle.job.specs.Demand2.{planProcess, Continues, Takes}
@@ -29,7 +29,7 @@ use Rattle.least.specs.declared.Least.{Least}
 use Rattle.least.specs.declared.Least.the-variants.{Found, Nothing}
 use Rattle.judge.specs.Verdict.{workSize, recordSize}
 use Rattle.judge.specs.Verdict as verdict
-use Rattle.judge.specs.Judged.{Judged, RecordAfter, workAfter}
+use Rattle.judge.specs.Judged.{Judged}
 use Rattle.judge.specs.declared.Judgement.{Judgement}
 use Rattle.judge.specs.declared.Judgement.the-variants.{Consistent, Violated, Refused}
 use Rattle.judge.proofs.Demand3.{found-answer, demand3}

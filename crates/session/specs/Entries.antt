@@ -1,6 +1,6 @@
 -- Which lines are read as entries: a line is read as an entry exactly where it is leaf and outcome in decimal with one blank between them.
 -- Read byte by byte, by Line.antt's definitions, it comes to this.
-use mathlib.Core.List.{List, [], _∷_, _++_}
+use mathlib.Core.List.{List, _∷_, _++_}
 use mathlib.Core.Path.{_≡_}
 use Prim.Native.Nat.{ℕ, _≤_}
 use Rattle.text.specs.Decimal.{Decimal}

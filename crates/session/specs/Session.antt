@@ -1,6 +1,6 @@
 -- What is said to the bytes of the input, one after the other: a newline ends a line, and each line is answered once, in its turn.
 -- The answer to an entry is the runner's own, and the job that it hands back goes on.
-use mathlib.Core.Bool.{Bool, false, cond}
+use mathlib.Core.Bool.{false, cond}
 use mathlib.Core.List.{List, [], _∷_}
 use mathlib.Core.Path.{_≡_}
 use Prim.Native.Nat.{ℕ}

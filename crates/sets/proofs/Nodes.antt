@@ -1,14 +1,12 @@
 -- The summary of a node is exact: a leaf's by its kind and its set, a composite's from those of its parts.
-use mathlib.Core.Path.{_≡_, refl, sym, subst}
+use mathlib.Core.Path.{_≡_, refl}
 use mathlib.Core.Bool.{Bool, true, false, not, cond}
 use mathlib.Core.List.{List}
-use mathlib.Core.Logic.{_⊎_, inl, inr}
 use Prim.Native.Nat.{ℕ, _^_, _≤_, _<_}
 use native.Mathlib.Omega.{arith}
-use lib.Dec.{T, eqb, ltb, ltb→lt}
-use borrow.Author.Tests.{eqb-true, eqb-false}
+use lib.Dec.{eqb, ltb, ltb→lt}
+use borrow.Author.Tests.{eqb-true}
 use Rattle.family.proofs.Numbers.{at-number}
-use Rattle.process.specs.Process.{ok, fail, permits}
 use Rattle.outcomes.specs.Cells.{cell}
 use Rattle.nodes.specs.Nodes.{count, form, left, right}
 use Rattle.plan.specs.PlanFile.{Runnable}

@@ -1,5 +1,4 @@
 -- `answers::put_end` meets its contract: a line for each end.
-use native.Mathlib.Omega.{arith}
 use borrow.Author.Needs.{needs}
 use Rattle.answers.proofs.put_end.Statement.{statement}
 use Rattle.answers.proofs.put_end.Tie as tie

@@ -1,7 +1,6 @@
 -- `answers::put_leaf` meets its contract: by the test for the leaf's bit.
 use mathlib.Core.Path.{sym, _∙_}
 use Rattle.answers.proofs.Texts.{leaf-comes, leaf-stays}
-use native.Mathlib.Omega.{arith}
 use borrow.Author.Needs.{needs}
 use Rattle.answers.proofs.put_leaf.Statement.{statement}
 use Rattle.answers.proofs.put_leaf.Tie as tie

@@ -1,6 +1,5 @@
 -- `answers::put_told` meets its contract, by what each part that is put says.
 use Rattle.answers.proofs.Texts.{told-put}
-use native.Mathlib.Omega.{arith}
 use borrow.Author.Needs.{needs}
 use Rattle.answers.proofs.put_told.Statement.{statement}
 use Rattle.answers.proofs.put_told.Tie as tie

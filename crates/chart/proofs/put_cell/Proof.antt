@@ -1,6 +1,5 @@
 -- `chart::put_cell` meets its contract: by the test whether the row goes on.
 use Rattle.chart.proofs.Texts.{within-row, row-ends}
-use native.Mathlib.Omega.{arith}
 use borrow.Author.Needs.{needs}
 use Rattle.chart.proofs.put_cell.Statement.{statement}
 use Rattle.chart.proofs.put_cell.Tie as tie

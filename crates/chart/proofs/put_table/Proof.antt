@@ -1,7 +1,6 @@
 -- `chart::put_table` meets its contract: the name, and then the cells.
 use Rattle.text.proofs.Ends.{put-both}
 use Rattle.chart.specs.Lines.{tableText}
-use native.Mathlib.Omega.{arith}
 use borrow.Author.Needs.{needs}
 use Rattle.chart.proofs.put_table.Statement.{statement}
 use Rattle.chart.proofs.put_table.Tie as tie

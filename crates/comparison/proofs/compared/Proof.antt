@@ -2,7 +2,7 @@
 -- and the counts stay within the number of vectors.
 use mathlib.Core.Path.{_≡_, refl, sym, ap, _∙_}
 use mathlib.Core.Bool.{Bool}
-use Prim.Native.Nat.{_+_, _≤_, _<_}
+use Prim.Native.Nat.{_+_, _≤_}
 use borrow.Author.Tests.{not-true, not-false}
 use Rattle.comparison.specs.Data.{counted, comparedFrom}
 use Rattle.comparison.specs.declared.Comparison.{Comparison}

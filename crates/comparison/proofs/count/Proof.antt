@@ -1,5 +1,4 @@
 -- `comparison::count` meets its contract: each arm of the match is its row of the definition.
-use native.Mathlib.Omega.{arith}
 use borrow.Author.Needs.{needs}
 use Rattle.comparison.proofs.count.Statement.{statement}
 use Rattle.comparison.proofs.count.Tie as tie

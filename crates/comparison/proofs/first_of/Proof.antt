@@ -1,7 +1,5 @@
 -- `comparison::first_of` meets its contract: each return by the test that led there.
 use borrow.Author.Tests.{eq-eqb, ne-eqb}
-use borrow.Author.Needs.{needs}
-use native.Mathlib.Omega.{arith}
 use Rattle.comparison.proofs.first_of.Statement.{statement}
 use Rattle.comparison.proofs.first_of.Tie as tie
 

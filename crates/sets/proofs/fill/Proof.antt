@@ -1,8 +1,7 @@
 -- `sets::fill` meets its contract: the nodes passed have their summaries in the work area, each part of a node before it.
 use mathlib.Core.Path.{_≡_, refl}
-use Prim.Native.Nat.{_-_, _≤_}
+use Prim.Native.Nat.{_-_}
 use native.Mathlib.Omega.{arith}
-use lib.ListN.{length}
 use borrow.Author.Needs.{needs}
 use Rattle.nodes.specs.Nodes.{count}
 use Rattle.sets.proofs.Filling.{Filling, filling-none, filling-more}

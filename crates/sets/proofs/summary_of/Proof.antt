@@ -1,7 +1,6 @@
 -- `sets::summary_of` meets its contract.
 use mathlib.Core.Path.{_≡_, sym}
 use Prim.Native.Nat.{_≤_}
-use native.Mathlib.Omega.{arith}
 use borrow.Author.Needs.{needs}
 use Rattle.outcomes.proofs.Table.{cell-in-chart}
 use Rattle.nodes.specs.Nodes.{form, left, right}

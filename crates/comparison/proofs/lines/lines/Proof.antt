@@ -3,7 +3,6 @@ use mathlib.Core.Path.{ap, _∙_}
 use Rattle.text.specs.Text.{textOf}
 use Rattle.comparison.specs.Lines.{linesFor}
 use Rattle.comparison.specs.declared.Comparison.{Comparison}
-use native.Mathlib.Omega.{arith}
 use borrow.Author.Needs.{needs}
 use Rattle.comparison.proofs.lines.lines.Statement.{statement}
 use Rattle.comparison.proofs.lines.lines.Tie as tie

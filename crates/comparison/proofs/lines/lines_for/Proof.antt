@@ -1,6 +1,5 @@
 -- `comparison::lines::lines_for` meets its contract: the lines have room in a text.
 use Rattle.comparison.proofs.Texts.{undamaged, also-damaged}
-use native.Mathlib.Omega.{arith}
 use borrow.Author.Needs.{needs}
 use Rattle.comparison.proofs.lines.lines_for.Statement.{statement}
 use Rattle.comparison.proofs.lines.lines_for.Tie as tie

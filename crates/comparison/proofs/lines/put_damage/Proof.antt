@@ -1,7 +1,6 @@
 -- `comparison::lines::put_damage` meets its contract, by what each part that is put says.
 use Rattle.text.proofs.Texts.{appended-both}
 use Rattle.comparison.specs.Lines.{damageLine}
-use native.Mathlib.Omega.{arith}
 use borrow.Author.Needs.{needs}
 use Rattle.comparison.proofs.lines.put_damage.Statement.{statement}
 use Rattle.comparison.proofs.lines.put_damage.Tie as tie

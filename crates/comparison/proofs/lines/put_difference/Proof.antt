@@ -1,6 +1,5 @@
 -- `comparison::lines::put_difference` meets its contract, by what each part that is put says.
 use Rattle.comparison.proofs.Texts.{difference-put}
-use native.Mathlib.Omega.{arith}
 use borrow.Author.Needs.{needs}
 use Rattle.comparison.proofs.lines.put_difference.Statement.{statement}
 use Rattle.comparison.proofs.lines.put_difference.Tie as tie

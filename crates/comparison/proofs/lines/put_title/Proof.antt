@@ -1,5 +1,4 @@
 -- `comparison::lines::put_title` meets its contract: a word for each group.
-use native.Mathlib.Omega.{arith}
 use borrow.Author.Needs.{needs}
 use Rattle.comparison.proofs.lines.put_title.Statement.{statement}
 use Rattle.comparison.proofs.lines.put_title.Tie as tie

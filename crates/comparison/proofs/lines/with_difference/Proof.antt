@@ -1,7 +1,6 @@
 -- `comparison::lines::with_difference` meets its contract: by the test whether a vector differs.
 use borrow.Author.Tests.{eq-eqb, ne-eqb}
 use Rattle.text.specs.Text.{appended}
-use native.Mathlib.Omega.{arith}
 use borrow.Author.Needs.{needs}
 use Rattle.comparison.proofs.lines.with_difference.Statement.{statement}
 use Rattle.comparison.proofs.lines.with_difference.Tie as tie
