@@ -3,6 +3,7 @@
 
 MODEL is the folder of the model (sessions.py says which). The program must have been built, by `rt check run`. One process is run for each session.
 Every other session goes line by line, each line sent once the answer to the one before it is there; the others come in pieces that end anywhere.
+About half of them are then brought to an end, in at most as many entries as the plan has leaves that the record does not name.
 The script ends with status 1 at the first session in which the two differ, and prints it.
 """
 import os
@@ -14,7 +15,7 @@ import tempfile
 import time
 
 from plans import damaged, number_of, random_plan
-from sessions import Model, cells_in, random_entry, said_to, told_lines
+from sessions import Model, cells_in, leaves_of, permitted, random_entry, said_to, told_lines
 
 # seconds that the program may take for an answer
 PATIENCE = 20
@@ -31,6 +32,18 @@ def random_line(rng, model):
         return rng.choice([b'', b' ', line + b' ', b' ' + line, b'0' + line, line[:-1], line[1:], line * 2, line + b'\r', b'256 1', b'1 256',
                            b'4294967296 1', b'0 18446744073709551617', b'x' * rng.choice([1, 7, 8, 4095, 4096, 9000]), b'0 ' + b'1' * 5000])
     return line
+
+
+def lines_of(rng, model, count, to_an_end):
+    """so many lines at random, and then entries that may come, until the run may end; the model hears each before the next is asked for"""
+    for _ in range(count):
+        yield random_line(rng, model)
+    unused = len(leaves_of(model.tree)) - len(model.record)
+    while to_an_end and model.told[1] is None:
+        if unused == 0 or not permitted(model):
+            sys.exit(f'no end in sight: {model.tree}, {model.record}')
+        unused -= 1
+        yield b'%d %d' % rng.choice(permitted(model))
 
 
 class Program:
@@ -76,15 +89,15 @@ def session(path, cells, rng, plan):
     model = Model(cells, file)
     step_by_step = rng.randrange(2) == 0
     count, last = rng.randrange(0, 40), rng.choice([b'', b'\n'])
-    expected, found, text = told_lines(model.told), '', b''
+    expected, found, text, heard = told_lines(model.told), '', b'', 0
     if step_by_step:
         found = program.says(len(expected))
-    for n in range(count):
-        line = random_line(rng, model)
+    for n, line in enumerate(lines_of(rng, model, count, last == b'\n')):
         end = last if n == count - 1 else b'\n'
         answer = said_to(model, line) if line or end else ''
         expected += answer
         text += line + end
+        heard += 1
         if step_by_step and found + answer == expected:
             program.hears(line + end)
             found += program.says(len(answer)) if end else ''
@@ -97,8 +110,8 @@ def session(path, cells, rng, plan):
     rest, errors, status = program.ends()
     found += rest
     if found == expected and not errors and not status:
-        return count, None
-    return count, f'plan {file.hex(" ")}\ninput {text!r}\nexpected {expected!r}\nfound {found!r}\nerrors {errors!r}, status {status}'
+        return heard, None
+    return heard, f'plan {file.hex(" ")}\ninput {text!r}\nexpected {expected!r}\nfound {found!r}\nerrors {errors!r}, status {status}'
 
 
 def main():

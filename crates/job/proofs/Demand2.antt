@@ -11,8 +11,9 @@ use Rattle.job.specs.Offer.{Real, offer, started}
 use Rattle.state.specs.State.{entriesFrom}
 use Rattle.job.specs.Demand2.{Starts, Demand2}
 use Rattle.job.specs.declared.Job.{Job}
-use Rattle.job.proofs.Standing.{refuses-so, honest, started-fine, offered-fine}
-use Rattle.job.proofs.Real.{false-refused, never-stalls}
+use Rattle.job.proofs.Standing.{refuses-so, started-fine, offered-fine}
+use Rattle.job.proofs.Honest.{honest}
+use Rattle.job.proofs.Real.{false-refused}
 
 -- no file is empty
 not-empty : (l : Layout) → readOf [] ≡ Accepted l → ⊥
@@ -35,5 +36,4 @@ demand2 = record {
   honest = λ s l h es. honest s l h (offer (started s l) es) (offered-fine s l h es (started s l) (started-fine s l h));
   false-jobs = false-refused;
   no-job = no-job-real;
-  no-stall = never-stalls;
 }

@@ -1,36 +1,30 @@
 -- A good job of an accepted plan: it carries the plan's file, and its record replays to a table that stands for a run that begins. A start
 -- gives one, an entry that may come gives the next one, and any other entry is refused.
-use mathlib.Core.Path.{_≡_, refl, sym, ap, subst, _∙_}
+use mathlib.Core.Path.{_≡_, refl, ap, subst, _∙_}
 use mathlib.Core.Bool.{Bool, true, false, cond}
 use mathlib.Core.List.{List, [], _∷_, _++_, map}
-use mathlib.Core.Logic.{_⊎_, inl, inr}
-use Prim.Native.Nat.{ℕ, zero, suc, _+_, _-_, _*_, _/_, _%_, _^_, _≤_, _<_}
-use native.Mathlib.Numerals.{add-one}
+use Prim.Native.Nat.{ℕ, zero, suc, _+_, _-_, _*_, _<_}
 use native.Mathlib.Omega.{arith}
-use lib.Dec.{ltb, eqb}
-use lib.ListN.{length, getD, set, take, replicate, length-append, length-replicate, length-set, length-map}
+use lib.ListN.{length, set, replicate, length-append, length-replicate, length-set, length-map}
 use lib.Seq.{take-append-seam}
-use borrow.Author.Tests.{le-leb, lt-ltb, ne-eqb}
-use Rattle.process.specs.Process.{Status, ok, fail, Process, entry, Run}
+use borrow.Author.Tests.{le-leb, lt-ltb}
+use Rattle.process.specs.Process.{Process, Run}
 use Rattle.plan.specs.PlanFile.{Runnable}
 use Rattle.plan.specs.Reading.{bytesOf, readOf}
 use Rattle.plan.specs.Tree.{processOf}
 use Rattle.plan.specs.declared.Layout.{Layout}
 use Rattle.plan.specs.declared.Reading.the-variants.{Accepted}
 use Rattle.plan.proofs.Demand1.{demand1, runnable}
-use Rattle.runs.specs.Cells.{Holds, ending, toldEnded, toldNext}
-use Rattle.runs.specs.declared.Told as cells
-use Rattle.runs.proofs.Leaves.{holds-none}
-use Rattle.state.specs.State.{toldBy, mayCome, freshTable, replay, entryAt, entriesFrom, stateAfter}
-use Rattle.job.specs.Job.{saying, refusal, freshJob, planOf, zerosFrom, tidy, withEntry, isOpen, stalled, afterEntry, takeWith, takeOn, takeOf}
+use Rattle.state.specs.State.{toldBy, mayCome, freshTable, replay, entriesFrom, stateAfter}
+use Rattle.job.specs.Job.{saying, refusal, freshJob, planOf, tidy, withEntry, afterEntry, takeWith, takeOn, takeOf}
 use Rattle.job.specs.Offer.{runEntry, recordOf, Sized}
 use Rattle.state.specs.declared.Entry.{Entry}
 use Rattle.job.specs.declared.Answer.the-variants as answer
 use Rattle.job.specs.declared.Job.{Job}
 use Rattle.state.specs.declared.Replayed.{Replayed}
-use Rattle.job.proofs.Tidy.{Tidy, tidy-says}
+use Rattle.job.proofs.Tidy.{Tidy}
 use Rattle.job.proofs.Areas.{padded-zeros, zeros-past}
-use Rattle.job.proofs.Outcomes.{zeros-at, stands-fresh, told-of}
+use Rattle.job.proofs.Outcomes.{zeros-at, stands-fresh}
 use Rattle.job.proofs.Comes.{told-begins}
 use Rattle.job.proofs.Entries.{entries-more, zeros-more}
 use Rattle.job.proofs.Followed.{Reached, reached-more, follows, replay-more}
@@ -90,22 +84,6 @@ module _ (s : List ℕ) (l : Layout) (acc : readOf s ≡ Accepted l) where
         state = refl;
       }
 
-  -- a run that begins does not stall
-  goes-on : (w : Run) (table : List ℕ) → Reached types b runs-on w table → stalled (toldBy b table) ≡ false
-  goes-on w table x = rw (told-of types b runs-on w table (x .stands)) (go (told-begins types b runs-on .goes-on w (x .begins)))
-    where
-      open-ending : (t : Status) → isOpen (ending t) ≡ false
-      open-ending ok = refl
-      open-ending fail = refl
-
-      either : (t : Bool) → cond t false false ≡ false
-      either true = refl
-      either false = refl
-
-      go : ((t : Status) × (toldEnded 1 Plan w ≡ ending t)) ⊎ ((n : ℕ) × Holds (toldNext 1 Plan w) n) → cond (isOpen (toldEnded 1 Plan w)) (eqb (toldNext 1 Plan w) 0) false ≡ false
-      go (inl (t, e)) = rw (e, open-ending t)
-      go (inr (n, h)) = rw (ne-eqb (toldNext 1 Plan w) 0 (λ z. holds-none n (rw z at h))) (either (isOpen (toldEnded 1 Plan w)))
-
   module _ (j : Job) (g : Good j) (e : Entry) where
     -- an entry goes by whether it may come
     taking : takeOf j e ≡ cond (mayCome types b (g .table) (e .leaf) (e .outcome)) (afterEntry b (g .table) j e) (refusal 11 j)
@@ -127,7 +105,7 @@ module _ (s : List ℕ) (l : Layout) (acc : readOf s ≡ Accepted l) where
       arrived = reached-more types b runs-on (recordOf j) (g .table) e (good-reached j g) h
 
       pub taken-so : takeOf j e ≡ record { answer = answer.Told (saying (toldBy b after)); job = withEntry j e }
-      taken-so = taking ∙ rw (h, goes-on (recordOf j ++ (runEntry e ∷ [])) after arrived)
+      taken-so = taking ∙ rw h
 
       pub room : 2 * j .taken + 1 < length (j .entries)
       room = omega (arith, g .neat .few, g .sized .entries)

@@ -8,5 +8,11 @@ pub mod Room
 pub mod Followed
 pub mod Good
 pub mod Standing
+pub mod Unused
+pub mod Onward
+pub mod Honest
 pub mod Real
 pub mod Demand2
+pub mod TakesAll
+pub mod PromisedEnd
+pub mod Examples

@@ -18,7 +18,7 @@ use Rattle.plan.specs.declared.Reading.the-variants as reading
 use Rattle.state.specs.State.{toldBy, mayCome, freshTable, replay, entryAt, entriesFrom, stateAfter}
 use Rattle.job.specs.Demand2.{planProcess, Continues}
 use Rattle.job.specs.Job.{saying, refusal, planOf, tidy, withEntry, takeWith, takeOn, takeOf}
-use Rattle.job.specs.Numbers.{numberOf, Refuses}
+use Rattle.job.specs.Numbers.{Refuses}
 use Rattle.job.specs.Offer.{Standing, onAnswer, next, offer, started, recordOf, Real, Sized}
 use Rattle.state.specs.declared.Entry.{Entry}
 use Rattle.job.specs.declared.Answer.{Answer}
@@ -112,7 +112,7 @@ replay-at types b (d ∷ xs) e ys table after h k = go (replay-at types b xs e y
     go rest (inr m) = absurd (true≢false (sym (rw m at h)))
 
 -- one entry more, offered after the others
-pub offer-snoc : (x : Standing) (es : List Entry) (e : Entry) → offer x (es ++ (e ∷ [])) ≡ next (offer x es) e
+offer-snoc : (x : Standing) (es : List Entry) (e : Entry) → offer x (es ++ (e ∷ [])) ≡ next (offer x es) e
 unfolding offer
 offer-snoc x [] e = refl
 offer-snoc x (d ∷ es) e = offer-snoc (next x d) es e
@@ -248,22 +248,4 @@ refused-or-permitted j z e = go (refused-or-good j z e)
 
     go : (takeOf j e ≡ refusal 11 j) ⊎ ((l : Layout) × (acc : readOf (planOf j) ≡ reading.Accepted l) × Good (planOf j) l acc j) → (takeOf j e ≡ refusal 11 j) ⊎ Found
     go (inl q) = inl q
-    go (inr (l, acc, g)) = on-entry l acc g (decide _)
-
--- 13 never falls
-pub never-stalls : (j : Job) → Sized j → (e : Entry) → numberOf (takeOf j e .answer) ≡ 13 → ⊥
-never-stalls j z e h = go (refused-or-good j z e)
-  where
-    other : (t : Taken) → takeOf j e ≡ t → numberOf (t .answer) ≡ 13
-    other t q = ap (λ (x : Taken). numberOf (x .answer)) (sym q) ∙ h
-
-    on-entry : (l : Layout) (acc : readOf (planOf j) ≡ reading.Accepted l) (g : Good (planOf j) l acc j)
-        → (mayCome (bytesOf (planOf j) (l .types)) (bytesOf (planOf j) (l .nodes)) (g .table) (e .leaf) (e .outcome) ≡ true)
-        ⊎ (mayCome (bytesOf (planOf j) (l .types)) (bytesOf (planOf j) (l .nodes)) (g .table) (e .leaf) (e .outcome) ≡ false)
-        → ⊥
-    on-entry l acc g (inl m) = absurd (omega (arith, other _ (taken-so (planOf j) l acc j g e m)))
-    on-entry l acc g (inr m) = absurd (omega (arith, other _ (not-taken (planOf j) l acc j g e m)))
-
-    go : (takeOf j e ≡ refusal 11 j) ⊎ ((l : Layout) × (acc : readOf (planOf j) ≡ reading.Accepted l) × Good (planOf j) l acc j) → ⊥
-    go (inl p) = absurd (omega (arith, other _ p))
     go (inr (l, acc, g)) = on-entry l acc g (decide _)

@@ -1,15 +1,14 @@
 -- A record always has room for an entry that may come: a leaf occurs once in a run, so there are no more entries than leaf numbers.
-use mathlib.Core.Path.{_≡_, refl, sym, _∙_}
-use mathlib.Core.Bool.{Bool, true, false, cond}
+use mathlib.Core.Path.{_≡_, refl, _∙_}
+use mathlib.Core.Bool.{cond}
 use mathlib.Core.List.{[], _∷_, _++_}
-use mathlib.Core.Logic.{_⊎_, inl, inr}
 use Prim.Native.Nat.{ℕ, zero, suc, _+_, _≤_, _<_}
 use native.Mathlib.Omega.{arith}
 use lib.Dec.{eqb}
 use lib.ListN.{length}
-use borrow.Author.Tests.{eqb-true, eqb-false, eq-eqb, ne-eqb}
+use borrow.Author.Tests.{eq-eqb, ne-eqb}
 use Rattle.blocks.specs.Bounded.{total}
-use Rattle.blocks.proofs.Bounded.{total-single}
+use Rattle.blocks.proofs.Bounded.{total-none, total-single}
 use Rattle.process.specs.Process.{Entry, entry, Run}
 use Rattle.runs.specs.Beginnings.{occurrences}
 
@@ -30,22 +29,23 @@ unfolding total
 total-add zero f g = refl
 total-add (suc m) f g = omega (arith, total-add m f g)
 
-total-ones : (m : ℕ) (g : ℕ → ℕ) → ((i : ℕ) → g i ≤ 1) → total m g ≤ m
+pub total-most : (m : ℕ) (f g : ℕ → ℕ) → ((i : ℕ) → f i ≤ g i) → total m f ≤ total m g
 unfolding total
-total-ones zero g h = omega arith
-total-ones (suc m) g h = omega (arith, h m, total-ones m g h)
+total-most zero f g h = omega arith
+total-most (suc m) f g h = omega (arith, h m, total-most m f g h)
 
-total-zero : (m : ℕ) → total m (λ i. 0) ≡ 0
+total-ones : (m : ℕ) → total m (λ i. 1) ≡ m
 unfolding total
-total-zero zero = refl
-total-zero (suc m) = omega (arith, total-zero m)
+total-ones zero = refl
+total-ones (suc m) = omega (arith, total-ones m)
 
 total-is : (m n : ℕ) → n < m → total m (is n) ≡ 1
 total-is m n h = total-single (is n) m n h (λ i l d. rw (ne-eqb i n d)) ∙ rw (eq-eqb n n refl)
 
-counted : (m : ℕ) (w : Run) → Below m w → total m (λ i. occurrences i w) ≡ length w
-counted m [] h = total-zero m
+-- the entries of a run, counted leaf by leaf
+pub counted : (m : ℕ) (w : Run) → Below m w → total m (λ i. occurrences i w) ≡ length w
+counted m [] h = total-none (λ i. 0) m (λ i l. refl)
 counted m (entry n s ∷ w) (l, h) = total-add m (is n) (λ i. occurrences i w) ∙ omega (arith, total-is m n l, counted m w h)
 
 pub once-few : (m : ℕ) (w : Run) → Below m w → ((n : ℕ) → occurrences n w ≤ 1) → length w ≤ m
-once-few m w b h = omega (arith, counted m w b, total-ones m (λ i. occurrences i w) h)
+once-few m w b h = omega (arith, counted m w b, total-most m (λ i. occurrences i w) (λ i. 1) h, total-ones m)

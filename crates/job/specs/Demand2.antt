@@ -64,5 +64,3 @@ pub record Demand2 : Type 0 where
   pub false-jobs : (j : Job) → Sized j → (Real j → ⊥) → (e : Entry) → Refuses 11 j (takeOf j e)
   -- such is the job beside a start's refusal
   pub no-job : Real noJob → ⊥
-  -- 13 never falls
-  pub no-stall : (j : Job) → Sized j → (e : Entry) → numberOf (takeOf j e .answer) ≡ 13 → ⊥

@@ -78,20 +78,9 @@ withEntry j e = record {
   taken = j .taken + 1;
 }
 
--- The run neither ends nor goes on.
-abbrev pub isOpen : Ended → Bool
-isOpen ended.Open = true
-isOpen ended.Succeeded = false
-isOpen ended.Failed = false
-
-abbrev pub stalled : cells.Told → Bool
-stalled t = cond (isOpen (t .ended)) (eqb (t .next) 0) false
-
--- An entry that may come: 13 where the run then stalls.
+-- An entry that may come: it is kept, and what the table tells with it is told.
 abbrev pub afterEntry : List ℕ → List ℕ → Job → Entry → Taken
-afterEntry b table j e =
-    cond (stalled (toldBy b (set table (e .leaf) (e .outcome)))) (refusal 13 j)
-    (record { answer = answer.Told (saying (toldBy b (set table (e .leaf) (e .outcome)))); job = withEntry j e })
+afterEntry b table j e = record { answer = answer.Told (saying (toldBy b (set table (e .leaf) (e .outcome)))); job = withEntry j e }
 
 -- An entry to a job of a plan with these types and nodes: 11 where its record is none of the plan, or the entry may not come.
 abbrev pub takeWith : List ℕ → List ℕ → Job → Entry → Taken

@@ -13,6 +13,7 @@ use Rattle.plan.specs.declared.Layout.{Layout}
 use Rattle.plan.specs.declared.Reading.the-variants.{Accepted}
 use Rattle.state.specs.State.{toldBy, freshTable, entriesFrom}
 use Rattle.job.specs.Job.{saying, freshJob, takeOf}
+use Rattle.job.specs.Numbers.{numberOf, endNumber}
 use Rattle.state.specs.declared.Entry.{Entry}
 use Rattle.job.specs.declared.Told.{Told}
 use Rattle.job.specs.declared.Answer.{Answer}
@@ -43,6 +44,17 @@ started s l = record { job = freshJob s; told = saying (toldBy (bytesOf s (l .no
 abbrev pub statusNumber : Status → ℕ
 statusNumber ok = 1
 statusNumber fail = 2
+
+-- From x on every entry of the list is taken, each by the job that the one before it gave back, and the last one leaves y.
+pub data TakesAll : Standing → List Entry → Standing → Type 0 where
+  no-more : {x : Standing} → TakesAll x [] x
+  one-more : {x y : Standing} {e : Entry} {es : List Entry} → numberOf (takeOf (x .job) e .answer) ≡ 0 → TakesAll (next x e) es y → TakesAll x (e ∷ es) y
+
+-- So, and after the last one (at once, where there is none) the runner has told that the run may end with the status.
+pub record TakesToEnd (x : Standing) (es : List Entry) (status : Status) : Type 0 where
+  pub last : Standing
+  pub takes : TakesAll x es last
+  pub ends : endNumber (last .told .end) ≡ statusNumber status
 
 abbrev pub statusOf : ℕ → Status
 statusOf outcome = cond (eqb outcome 1) ok fail

@@ -10,7 +10,7 @@ ghost use lib.Dec.{ltb, eqb};
 ghost use lib.ListN.{length};
 ghost use Rattle.plan.specs.PlanFile.{Runnable};
 ghost use Rattle.plan.specs.Reading.{bytesOf, readOf};
-ghost use Rattle.job.specs.Job.{limits, endOf, saying, refusal, noJob, freshJob, startWith, startOf, zerosFrom, tidy, withEntry, isOpen, stalled, afterEntry, takeWith, takeOn, takeOf, planOf};
+ghost use Rattle.job.specs.Job.{limits, endOf, saying, refusal, noJob, freshJob, startWith, startOf, zerosFrom, tidy, withEntry, afterEntry, takeWith, takeOn, takeOf, planOf};
 
 pub enum Status {
     Succeeded,
@@ -117,27 +117,6 @@ fn is_tidy(j: Job) -> bool
     false
 }
 
-fn is_open(e: Ended) -> bool
-    ensures { λ r. ⌜ r ≡ isOpen e ⌝ }
-{
-    match e {
-        Ended::Open => true,
-        Ended::Succeeded => false,
-        Ended::Failed => false,
-    }
-}
-
-// Whether the run neither ends nor goes on.
-fn is_stalled(t: runs::Told) -> bool
-    ensures { λ r. ⌜ r ≡ stalled t ⌝ }
-{
-    let ended = t.ended;
-    if is_open(ended) {
-        return t.next == 0;
-    }
-    false
-}
-
 // The job with one entry more.
 fn with_entry(j: Job, e: Entry) -> Job
     requires { ⌜ j .taken < 63 ⌝ }
@@ -156,7 +135,7 @@ fn with_entry(j: Job, e: Entry) -> Job
     }
 }
 
-// An entry that may come: 13 where the run then stalls.
+// An entry that may come: it is kept, and what the table tells with it is told.
 fn after_entry(types: &[u8], nodes: &[u8], table: [u8; 63], j: Job, e: Entry) -> Taken
     requires { ⌜ Runnable (now types) (now nodes) × (j .taken < 63) × (e .leaf < 63) ⌝ }
     ensures { λ r. ⌜ r ≡ afterEntry (now (nodes .entry)) table j e ⌝ }
@@ -165,9 +144,6 @@ fn after_entry(types: &[u8], nodes: &[u8], table: [u8; 63], j: Job, e: Entry) ->
     let n = blocks::wide(e.leaf);
     next[n] = e.outcome;
     let told = state::told_by(types, nodes, &next);
-    if is_stalled(told) {
-        return refuse(13, j);
-    }
     Taken {
         answer: Answer::Told(say(told)),
         job: with_entry(j, e),

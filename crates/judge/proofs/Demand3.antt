@@ -1,35 +1,47 @@
 -- Demand 3, put together from its parts.
 use mathlib.Core.Path.{_≡_, refl, sym, ap, subst, _∙_}
 use mathlib.Core.Bool.{Bool, true, false, not, true≢false}
-use mathlib.Core.List.{List, _++_, List·Memᴰ}
+use mathlib.Core.List.{List, _++_, map, List·Memᴰ}
 use mathlib.Core.Logic.{_↔_}
 use Prim.Native.Nat.{ℕ, _≤_, _<_}
 use native.Mathlib.Omega.{arith}
 use lib.ListN.{length, take, drop}
 use lib.Seq.{take-append-seam}
 use borrow.Author.Tests.{lt-ltb, le-ltb, not-true, not-false}
+use Rattle.process.specs.Process.{Status, Run}
+use Rattle.process.specs.Figure2.{Complete}
 use Rattle.plan.specs.Reading.{bytesOf, readOf}
 use Rattle.plan.specs.declared.Layout.{Layout}
 use Rattle.plan.specs.declared.Reading.{Reading}
 use Rattle.plan.specs.declared.Reading.the-variants.{Accepted}
 use Rattle.plan.specs.declared.Reading.the-variants as reading
 use Rattle.plan.proofs.Demand1.{demand1}
+use Rattle.state.specs.State.{entriesFrom}
+use Rattle.state.specs.declared.Entry.{Entry}
+use Rattle.job.specs.Offer.{started}
+use Rattle.job.specs.Demand2.{planProcess}
+use Rattle.job.proofs.Standing.{started-fine}
+use Rattle.job.proofs.TakesAll.{offered, takes-to-end}
 use Rattle.meaning.proofs.Laws.{laws}
 use Rattle.least.specs.declared.Least.{Least}
 use Rattle.least.specs.declared.Least.the-variants.{Found, Nothing}
 use Rattle.judge.specs.Verdict.{smallest, answerOf, keepsRule, planSetsOf, workSize, recordSize, verdictOn, verdictOf, numberOf, saysConsistent, setGiven}
 use Rattle.judge.specs.Shown.{shownEntries, shownRun, runSet, ShowsRun}
 use Rattle.judge.specs.Judged.{Judged, Recorded, RecordAfter}
-use Rattle.judge.specs.Demand3.{PlanRule, keeps, AllKeep, Violation, Says, Demand3}
+use Rattle.judge.specs.Demand3.{Replays, PlanRule, keeps, AllKeep, Violation, Says, Demand3}
 use Rattle.judge.specs.declared.Judgement.{Judgement}
 use Rattle.judge.specs.declared.Judgement.the-variants.{Violated, Refused}
 use Rattle.judge.proofs.Smallest.{IsSmallest, Tells, smallest-tells}
 use Rattle.judge.proofs.PlanRuns.{left-by, run-set-listed}
-use Rattle.judge.proofs.Replay.{replays}
-use Rattle.judge.proofs.Decoded.{shown-status}
+use Rattle.judge.proofs.Decoded.{shown-offered}
 
 front-of : (xs ys : List ℕ) → length xs ≡ recordSize → take recordSize (xs ++ ys) ≡ xs
 front-of xs ys e = subst (λ (n : ℕ). take n (xs ++ ys) ≡ xs) e (take-append-seam xs ys)
+
+-- a complete run, offered whole to a fresh job of its plan
+replays : (s : List ℕ) (l : Layout) → readOf s ≡ Accepted l → (run : Run) (status : Status) → Complete (planProcess s l) run status → Replays s l (map offered run) status
+unfolding entriesFrom
+replays s l h run status c = takes-to-end s l h run (started s l) (started-fine s l h) status c
 
 abbrev layoutIn : Layout → Reading → Layout
 layoutIn l (Accepted k) = k
@@ -96,7 +108,7 @@ module _ (s : List ℕ) (l : Layout) (h : readOf s ≡ Accepted l) (rule : PlanR
     complete = r .complete;
     leaves = r .leaves;
     breaks = sym (stack-keeps set) ∙ not-true _ (m .holds);
-    replays = replays s l h (shownEntries bytes) (r .status) (rw (r .padded) (shown-status (shownRun bytes))) (r .complete);
+    replays = subst (λ (es : List Entry). Replays s l es (r .status)) (sym (ap shownEntries (r .padded) ∙ shown-offered (shownRun bytes))) (replays s l h (shownRun bytes) (r .status) (r .complete));
     smallest = λ run t c k. m .least (runSet s l run) (run-set-listed s l h run t c) (rw (stack-keeps (runSet s l run), k));
   }
 

@@ -1,6 +1,5 @@
 pub mod Smallest
 pub mod PlanRuns
-pub mod Replay
 pub mod Decoded
 pub mod Demand3
 pub mod Answer

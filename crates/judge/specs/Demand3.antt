@@ -3,7 +3,7 @@
 -- by entry to its end. `demand3` in proofs/ proves it of every answer that the contract of `verdict` admits.
 use mathlib.Core.Path.{_≡_}
 use mathlib.Core.Bool.{Bool, true, false}
-use mathlib.Core.List.{List, [], _∷_}
+use mathlib.Core.List.{List}
 use mathlib.Core.Logic.{_↔_}
 use Prim.Native.Nat.{ℕ, _≤_, _<_}
 use lib.ListN.{length, take}
@@ -16,9 +16,7 @@ use Rattle.plan.specs.declared.Reading.the-variants as reading
 use Rattle.bodies.specs.Rule.{Rule}
 use Rattle.meaning.specs.Meaning.{meaning}
 use Rattle.state.specs.declared.Entry.{Entry}
-use Rattle.job.specs.Job.{takeOf}
-use Rattle.job.specs.Numbers as runner
-use Rattle.job.specs.Offer.{Standing, next, started, statusNumber}
+use Rattle.job.specs.Offer.{started, TakesToEnd}
 use Rattle.job.specs.Demand2.{planProcess}
 use Rattle.judge.specs.Verdict.{workSize, recordSize, verdictOf, numberOf, saysConsistent, setGiven}
 use Rattle.judge.specs.Shown.{shownEntries, shownRun, runSet}
@@ -26,16 +24,9 @@ use Rattle.judge.specs.Judged.{Judged}
 use Rattle.judge.specs.declared.Judgement.{Judgement}
 
 -- "A run is offered to a fresh job where its first entry goes to the job that the start gave and each later one to the job that the one
--- before it gave back": from x on every entry of the list is taken, and the last one leaves y.
-pub data TakesAll : Standing → List Entry → Standing → Type 0 where
-  no-more : {x : Standing} → TakesAll x [] x
-  one-more : {x y : Standing} {e : Entry} {es : List Entry} → runner.numberOf (takeOf (x .job) e .answer) ≡ 0 → TakesAll (next x e) es y → TakesAll x (e ∷ es) y
-
--- The whole run, offered to a fresh job of the plan: every entry is taken, and after the last one the run may end with the status.
-pub record Replays (s : List ℕ) (l : Layout) (es : List Entry) (status : Status) : Type 0 where
-  pub last : Standing
-  pub takes : TakesAll (started s l) es last
-  pub ends : runner.endNumber (last .told .end) ≡ statusNumber status
+-- before it gave back": every entry of the whole run is taken, and after the last one the run may end with the status.
+abbrev pub Replays : List ℕ → Layout → List Entry → Status → Type 0
+Replays s l es status = TakesToEnd (started s l) es status
 
 -- The rule of a plan file: how its bytes are put together, as demand 1 says that they are.
 abbrev pub PlanRule : List ℕ → Layout → Type 0

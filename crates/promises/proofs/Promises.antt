@@ -1,6 +1,7 @@
--- The three demands, from the crates that prove them.
+-- The promises, from the crates that prove them.
 use Rattle.plan.proofs.Demand1.{demand1}
 use Rattle.job.proofs.Demand2.{demand2}
+use Rattle.job.proofs.PromisedEnd.{promised-end}
 use Rattle.judge.proofs.Demand3.{demand3}
 use Rattle.promises.specs.Promises.{Promises}
 use Rattle.promises.proofs.Areas.{leaves}
@@ -11,4 +12,5 @@ promises = record {
   refused = demand-1;
   runner = record { starts = demand2 .starts; honest = demand2 .honest };
   verdict = record { rule = λ s l h. demand1 .holds s l h .rule-holds .holds; says = demand3 .says; leaves = leaves };
+  an-end = promised-end;
 }

@@ -1,4 +1,6 @@
--- The three demands side by side. `promises` in proofs/ proves them, from what the crates below prove of themselves.
+-- The three demands and, beside them, document 02's promise of an end (N2). `promises` in proofs/ proves them, from what the crates below prove
+-- of themselves.
+use Rattle.job.specs.PromisedEnd.{PromisedEnd}
 use Rattle.promises.specs.Refused.{Demand1}
 use Rattle.promises.specs.Runner.{Demand2}
 use Rattle.promises.specs.Verdict.{Demand3}
@@ -7,3 +9,4 @@ pub record Promises : Type 0 where
   pub refused : Demand1
   pub runner : Demand2
   pub verdict : Demand3
+  pub an-end : PromisedEnd

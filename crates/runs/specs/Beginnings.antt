@@ -48,7 +48,7 @@ pub record Beginnings (depth : ℕ) (P : Process) : Type 0 where
   pub ends : (w : Run) → Begins P w → (s : Status) → (toldEnded depth P w ≡ ending s) ↔ Complete P w s
   -- from each beginning an end is reached, with at most the leaves that have not run
   pub reaches : (w : Run) → Begins P w → (z : Run) × (s : Status) × Complete P (w ++ z) s × (length w + length z ≤ leafCount P)
-  -- the run may end here, or some leaf is told as next: document 01's refusal 13 never falls
+  -- the run may end here, or some leaf is told as next
   pub goes-on : (w : Run) → Begins P w → ((s : Status) × (toldEnded depth P w ≡ ending s)) ⊎ ((n : ℕ) × Holds (toldNext depth P w) n)
   -- "a leaf occurs at most once in a run": in a beginning, and so in a complete run
   pub once : (w : Run) → Begins P w → (n : ℕ) → occurrences n w ≤ 1
