@@ -36,6 +36,11 @@ unfoldable pub offer : Standing → List Entry → Standing
 offer x [] = x
 offer x (e ∷ es) = offer (next x e) es
 
+-- From x on every entry of the list is taken, each by the job that the one before it gave back, and the last one leaves y.
+pub data TakesAll : Standing → List Entry → Standing → Type 0 where
+  no-more : {x : Standing} → TakesAll x [] x
+  one-more : {x y : Standing} {e : Entry} {es : List Entry} → numberOf (takeOf (x .job) e .answer) ≡ 0 → TakesAll (next x e) es y → TakesAll x (e ∷ es) y
+
 -- where a start on an accepted plan file with this layout stands
 abbrev pub started : List ℕ → Layout → Standing
 started s l = record { job = freshJob s; told = saying (toldBy (bytesOf s (l .nodes)) freshTable) }
@@ -44,17 +49,6 @@ started s l = record { job = freshJob s; told = saying (toldBy (bytesOf s (l .no
 abbrev pub statusNumber : Status → ℕ
 statusNumber ok = 1
 statusNumber fail = 2
-
--- From x on every entry of the list is taken, each by the job that the one before it gave back, and the last one leaves y.
-pub data TakesAll : Standing → List Entry → Standing → Type 0 where
-  no-more : {x : Standing} → TakesAll x [] x
-  one-more : {x y : Standing} {e : Entry} {es : List Entry} → numberOf (takeOf (x .job) e .answer) ≡ 0 → TakesAll (next x e) es y → TakesAll x (e ∷ es) y
-
--- So, and after the last one (at once, where there is none) the runner has told that the run may end with the status.
-pub record TakesToEnd (x : Standing) (es : List Entry) (status : Status) : Type 0 where
-  pub last : Standing
-  pub takes : TakesAll x es last
-  pub ends : endNumber (last .told .end) ≡ statusNumber status
 
 abbrev pub statusOf : ℕ → Status
 statusOf outcome = cond (eqb outcome 1) ok fail
@@ -65,6 +59,13 @@ runEntry e = entry (e .leaf) (statusOf (e .outcome))
 -- a job's record, as a run of the report
 abbrev pub recordOf : Job → Run
 recordOf j = map runEntry (entriesFrom (j .entries) 0 (j .taken))
+
+-- All entries of the list are taken from x on, and after the last one (at once, where there is none) the runner has told that the run may end
+-- with the status.
+pub record TakesToEnd (x : Standing) (es : List Entry) (status : Status) : Type 0 where
+  pub last : Standing
+  pub takes : TakesAll x es last
+  pub ends : endNumber (last .told .end) ≡ statusNumber status
 
 -- A job that a start on some plan file and some entries give.
 pub record Real (j : Job) : Type 0 where
