@@ -3,8 +3,8 @@
 
 MODEL is the folder of the model (sessions.py says which). The program must have been built, by `rt check run`. One process is run for each session.
 Every other session goes line by line, each line sent once the answer to the one before it is there; the others come in pieces that end anywhere.
-About half of them are then brought to an end, in at most as many entries as the plan has leaves that the record does not name.
-The script ends with status 1 at the first session in which the two differ, and prints it.
+About half of all sessions are brought to an end after their lines, in at most as many entries as the plan has leaves that the record does not name.
+The script ends with status 1 at the first session in which the two differ, or in which the model comes to no end, and prints it.
 """
 import os
 import random

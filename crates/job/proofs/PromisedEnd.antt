@@ -3,6 +3,7 @@
 use mathlib.Core.Path.{_≡_}
 use mathlib.Core.List.{List, [], map, append-nil}
 use Prim.Native.Nat.{ℕ}
+use native.Mathlib.Omega.{arith}
 use lib.ListN.{length-map}
 use Rattle.process.specs.Process.{Run}
 use Rattle.plan.specs.Reading.{bytesOf, readOf}
@@ -25,7 +26,7 @@ module _ (s : List ℕ) (l : Layout) (acc : readOf s ≡ Accepted l) (x : Standi
       let (z, status, c) = reached s l acc x f .begins in
       record {
         entries = map offered z;
-        few = rw (length-map z offered) (few-follow (bytesOf s (l .types)) (bytesOf s (l .nodes)) (runs-on s l acc) w z ([], status, rw append-nil c));
+        few = omega (arith, length-map z offered, few-follow (bytesOf s (l .types)) (bytesOf s (l .nodes)) (runs-on s l acc) w z ([], status, rw append-nil c));
         status = status;
         ends = takes-to-end s l acc z x f status c;
       }
