@@ -7,7 +7,7 @@ use Prim.Native.Nat.{ℕ, _≤_}
 use native.Mathlib.Omega.{arith}
 use lib.ListN.{length}
 use Rattle.blocks.specs.Bounded.{every, total}
-use Rattle.process.specs.Process.{Status, ok, fail, entry}
+use Rattle.process.specs.Process.{ok, fail, entry}
 use Rattle.nodes.specs.Fold.{foldFrom}
 use Rattle.bodies.specs.Rule.{ruleFrom}
 use Rattle.plan.specs.Reading.{bytesOf, readOf}
@@ -18,7 +18,7 @@ use Rattle.state.specs.State.{toldBy, leafPermits, mayCome, replay, entriesFrom
 use Rattle.state.specs.declared.Entry.{Entry}
 use Rattle.job.specs.Job.{takeOf}
 use Rattle.job.specs.Numbers.{numberOf, endNumber}
-use Rattle.job.specs.Offer.{Standing, offer, TakesAll, no-more, one-more, started, statusNumber}
+use Rattle.job.specs.Offer.{Standing, offer, TakesAll, no-more, one-more, started}
 use Rattle.job.specs.PromisedEnd.{unusedLeaves, EndsHere, TellsLeaf, ReachesEnd}
 
 abbrev swallowed : List ℕ
