@@ -3,15 +3,13 @@
 use mathlib.Core.Path.{_≡_, refl, sym, ap, _∙_}
 use mathlib.Core.Bool.{Bool, true, false, not, cond, true≢false}
 use mathlib.Core.List.{List, [], _∷_, _++_}
-use mathlib.Core.Logic.{_↔_, _⊎_, inl, inr}
-use Prim.Native.Nat.{ℕ, _/_, _%_, _^_, _≤_, _<_}
-use native.Mathlib.Omega.{arith}
-use lib.Dec.{ltb, eqb}
-use lib.ListN.{getD}
-use borrow.Author.Tests.{eqb-true, eqb-false, eq-eqb, ne-eqb, ltb-true, lt-ltb}
-use Rattle.blocks.proofs.Bounded.{decide, both-true}
+use mathlib.Core.Logic.{_↔_}
+use Prim.Native.Nat.{ℕ, _/_, _%_, _^_, _<_}
+use lib.Dec.{eqb}
+use borrow.Author.Tests.{eqb-true, eq-eqb, ltb-true, lt-ltb}
+use Rattle.blocks.proofs.Bounded.{both-true}
 use Rattle.process.specs.Process.{Status, ok, fail, Kind, permits, Permits, Process, entry, Run}
-use Rattle.nodes.specs.Nodes.{count, form, left}
+use Rattle.nodes.specs.Nodes.{count, form}
 use Rattle.plan.specs.PlanFile.{Runnable}
 use Rattle.plan.specs.Tree.{typeKind, leafKind, processOf}
 use Rattle.plan.proofs.Tree.{some-leaf, drawn}
@@ -45,6 +43,17 @@ module _ (types b : List ℕ) (r : Runnable types b) where
   pub told-begins : Beginnings 1 P
   told-begins = let d = drawn types b r in beginnings 1 P (d .written) (d .distinct) (d .flat)
 
+  -- what may follow a run is an entry of a leaf of the plan, with a status that it permits
+  pub record OfLeaf (n : ℕ) (s : Status) : Type 0 where
+    pub present : n < count b
+    pub plain : form b n < 3
+    pub permitted : Permits (leafKind types b n) s
+
+  pub next-leaf : (w : Run) (n : ℕ) (s : Status) → Begins P (w ++ (entry n s ∷ [])) → OfLeaf n s
+  next-leaf w n s z =
+      let (m, c, f, (same, may)) = some-leaf types b r (λ m k. (n ≡ m) × Permits k s) .0 (told-begins .next w (told-begins .cut w (entry n s ∷ []) z) n s .0 z .1) in
+      rw same (record { present = c; plain = f; permitted = may })
+
   module _ (w : Run) (table : List ℕ) (stands : Stands w table) (begun : Begins P w) where
     next-is : toldBy b table .next ≡ toldNext 1 P w
     next-is = ap (λ (t : Told). t .next) (told-of types b r w table stands)
@@ -65,12 +74,8 @@ module _ (types b : List ℕ) (r : Runnable types b) where
 
         from : ((s : Status) × (outcome ≡ statusNumber s) × Begins P (w ++ (entry n s ∷ []))) → mayCome types b table n outcome ≡ true
         from (s, e, z) =
-            let (h, l) = told-begins .next w begun n s .0 z in
-            let (m, c, small, (same, may)) = some-leaf types b r (λ m k. (n ≡ m) × Permits k s) .0 l in
-            let present : n < count b = rw same c in
-            let plain : form b n < 3 = rw same small in
-            let kind : Permits (leafKind types b n) s = rw same may in
+            let x = next-leaf w n s z in
             let type : typePermits (leafType types b n) outcome ≡ true =
-            rw e (sym (permits-type (leafType types b n) s) ∙ ap (λ (k : Kind). permits k s) (sym (kind-type types b n plain)) ∙ kind) in
-            let bit : isNext (toldBy b table .next) n ≡ true = rw next-is (eq-eqb _ _ h) in
-            rw (lt-ltb n (count b) present, lt-ltb (form b n) 3 plain, type, bit)
+            rw e (sym (permits-type (leafType types b n) s) ∙ ap (λ (k : Kind). permits k s) (sym (kind-type types b n (x .plain))) ∙ x .permitted) in
+            let bit : isNext (toldBy b table .next) n ≡ true = rw next-is (eq-eqb _ _ (told-begins .next w begun n s .0 z .0)) in
+            rw (lt-ltb n (count b) (x .present), lt-ltb (form b n) 3 (x .plain), type, bit)

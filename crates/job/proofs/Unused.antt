@@ -11,15 +11,14 @@ use lib.ListN.{length}
 use borrow.Author.Tests.{ltb-false, eqb-false, eq-eqb, ne-eqb}
 use Rattle.blocks.specs.Bounded.{one}
 use Rattle.blocks.proofs.Bounded.{decide}
-use Rattle.process.specs.Process.{Status, Permits, Process, entry, Run}
+use Rattle.process.specs.Process.{Status, Process, entry, Run}
 use Rattle.nodes.specs.Nodes.{count, form}
 use Rattle.plan.specs.PlanFile.{Runnable}
 use Rattle.plan.specs.Tree.{processOf}
-use Rattle.plan.proofs.Tree.{some-leaf}
 use Rattle.runs.specs.Beginnings.{Begins, occurrences}
 use Rattle.runs.proofs.Counts.{sum-append}
 use Rattle.job.specs.PromisedEnd.{isUnused, unusedLeaves}
-use Rattle.job.proofs.Comes.{told-begins}
+use Rattle.job.proofs.Comes.{told-begins, next-leaf}
 use Rattle.job.proofs.Room.{Below, counted, total-most}
 
 module _ (types b : List ℕ) (r : Runnable types b) where
@@ -31,18 +30,12 @@ module _ (types b : List ℕ) (r : Runnable types b) where
   NamesLeaves [] = Unit {0}
   NamesLeaves (entry n s ∷ z) = (n < count b) × (form b n < 3) × NamesLeaves z
 
-  next-leaf : (w : Run) (n : ℕ) (s : Status) → Begins P (w ++ (entry n s ∷ [])) → (n < count b) × (form b n < 3)
-  next-leaf w n s h =
-      let told = told-begins types b r in
-      let (m, c, f, (same, p)) = some-leaf types b r (λ m k. (n ≡ m) × Permits k s) .0 (told .next w (told .cut w (entry n s ∷ []) h) n s .0 h .1) in
-      rw same (c, f)
-
   names-leaves : (w z : Run) → Begins P (w ++ z) → NamesLeaves z
   names-leaves w [] h = tt
   names-leaves w (entry n s ∷ z) h =
       let longer : Begins P ((w ++ (entry n s ∷ [])) ++ z) = rw append-assoc h in
-      let (c, f) = next-leaf w n s (told-begins types b r .cut (w ++ (entry n s ∷ [])) z longer) in
-      (c, f, names-leaves (w ++ (entry n s ∷ [])) z longer)
+      let x = next-leaf types b r w n s (told-begins types b r .cut (w ++ (entry n s ∷ [])) z longer) in
+      (x .present, x .plain, names-leaves (w ++ (entry n s ∷ [])) z longer)
 
   present : (z : Run) → NamesLeaves z → Below (count b) z
   present [] h = tt
@@ -77,7 +70,7 @@ module _ (types b : List ℕ) (r : Runnable types b) where
 
   pub next-unused : (w : Run) (n : ℕ) (s : Status) → Begins P (w ++ (entry n s ∷ [])) → Unused w n
   next-unused w n s h = record {
-    present = next-leaf w n s h .0;
+    present = next-leaf types b r w n s h .present;
     unused = go (isUnused b w n) (rw (eq-eqb n n refl) at (follows-once w (entry n s ∷ []) h n));
   }
     where
