@@ -1,9 +1,10 @@
-/* Times the proved verdict and the C one on each named case, and prints a table (Markdown) of their times and ratio.
+/* Times the proved verdict and the C one on each named case, and prints a table (Markdown) of their times and ratio. Compiled with BEFORE it
+   times another build of the proved one too, and prints its times and the ratio to them.
 
    What is timed: one whole verdict, from the file's bytes to the answer: reading and checking the file, the summaries, the least violating
    set, the run that is shown, and clearing the work area. Both get the same file and the same two lent areas, which the call before left as
    a verdict leaves them, so neither is cleared in between. It is processor time, since other work may share the machine. A round repeats one
-   verdict and then the other for some 12 ms each; the times are the medians over the rounds, the ratio the median of the rounds' ratios. */
+   verdict and then the next for some 12 ms each; the times are the medians over the rounds, the ratio the median of the rounds' ratios. */
 #include <stdio.h>
 #include <stdlib.h>
 #include <string.h>
@@ -12,8 +13,6 @@
 #include "cases.h"
 #include "summary.h"
 #include "verdict.h"
-
-typedef uint32_t verdict_fn(const uint8_t *, size_t, uint8_t *, size_t, uint8_t *, size_t);
 
 enum { ROUNDS = 41, ROUND_MICROSECONDS = 12000 };
 
@@ -85,18 +84,35 @@ static unsigned set_count(const struct plan_file *f, unsigned *full_nodes)
     return size_of(sets);
 }
 
-/* The answer of both, or an end of the program where they differ: times of different answers compare nothing. */
-static uint32_t answer_of_both(const char *name, const struct plan_file *f)
+struct version {
+    const char *name;
+    verdict_fn *f;
+};
+
+static const struct version VERSIONS[] = {
+    {"proved", vodjimar_verdict},
+    {"C", plain_verdict},
+#ifdef BEFORE
+    {"before", vodjimar_before},
+#endif
+};
+
+enum { VERSION_COUNT = sizeof VERSIONS / sizeof *VERSIONS };
+
+/* The answer of all versions, or an end of the program where they differ: times of different answers compare nothing. */
+static uint32_t answer_of_all(const char *name, const struct plan_file *f)
 {
-    uint8_t proved_record[RECORD];
-    uint32_t proved = vodjimar_verdict(f->bytes, f->len, work, sizeof work, record, sizeof record);
-    memcpy(proved_record, record, sizeof record);
-    uint32_t plain = plain_verdict(f->bytes, f->len, work, sizeof work, record, sizeof record);
-    if (proved != plain || memcmp(proved_record, record, sizeof record)) {
-        printf("%s: the two disagree, %x and %x\n", name, (unsigned)proved, (unsigned)plain);
-        exit(1);
+    uint8_t first_record[RECORD];
+    uint32_t first = VERSIONS[0].f(f->bytes, f->len, work, sizeof work, record, sizeof record);
+    memcpy(first_record, record, sizeof record);
+    for (unsigned v = 1; v < VERSION_COUNT; v++) {
+        uint32_t answer = VERSIONS[v].f(f->bytes, f->len, work, sizeof work, record, sizeof record);
+        if (answer != first || memcmp(first_record, record, sizeof record)) {
+            printf("%s: proved and %s disagree, %x and %x\n", name, VERSIONS[v].name, (unsigned)first, (unsigned)answer);
+            exit(1);
+        }
     }
-    return plain;
+    return first;
 }
 
 static void print_verdict(uint32_t v)
@@ -111,27 +127,35 @@ static void print_verdict(uint32_t v)
 
 int main(void)
 {
-    printf("| case | sets | verdict | proved, us | C, us | ratio |\n|---|---|---|---|---|---|\n");
+    printf("| case | sets | verdict | proved, us");
+    for (unsigned v = 1; v < VERSION_COUNT; v++)
+        printf(" | %s, us | ratio", VERSIONS[v].name);
+    printf(" |\n|---|---|---|---%s|---|---|\n", VERSION_COUNT > 2 ? "|---|---" : "");
     for (unsigned k = 0; k < CASE_COUNT; k++) {
         struct plan_file f;
         if (!write_case(&CASES[k], &f)) {
             printf("%s is no plan\n", CASES[k].name);
             return 1;
         }
-        uint32_t v = answer_of_both(CASES[k].name, &f);
-        double proved[ROUNDS], plain[ROUNDS], ratio[ROUNDS];
-        unsigned proved_times = times_for(vodjimar_verdict, &f), plain_times = times_for(plain_verdict, &f);
-        for (unsigned r = 0; r < ROUNDS; r++) {
-            proved[r] = round_of(vodjimar_verdict, &f, proved_times);
-            plain[r] = round_of(plain_verdict, &f, plain_times);
-            ratio[r] = proved[r] / plain[r];
-        }
+        uint32_t answer = answer_of_all(CASES[k].name, &f);
+        double time[VERSION_COUNT][ROUNDS], ratio[VERSION_COUNT][ROUNDS];
+        unsigned times[VERSION_COUNT];
+        for (unsigned v = 0; v < VERSION_COUNT; v++)
+            times[v] = times_for(VERSIONS[v].f, &f);
+        for (unsigned r = 0; r < ROUNDS; r++)
+            for (unsigned v = 0; v < VERSION_COUNT; v++) {
+                time[v][r] = round_of(VERSIONS[v].f, &f, times[v]);
+                ratio[v][r] = time[0][r] / time[v][r];
+            }
         unsigned full_nodes, sets = set_count(&f, &full_nodes);
         printf("| %s | %u | ", CASES[k].name, sets);
         if (full_nodes)
             fprintf(stderr, "%s: %u nodes with all six families full, counted\n", CASES[k].name, full_nodes);
-        print_verdict(v);
-        printf(" | %.2f | %.2f | %.2f |\n", median(proved), median(plain), median(ratio));
+        print_verdict(answer);
+        printf(" | %.2f", median(time[0]));
+        for (unsigned v = 1; v < VERSION_COUNT; v++)
+            printf(" | %.2f | %.2f", median(time[v]), median(ratio[v]));
+        printf(" |\n");
         fflush(stdout);
     }
     return 0;

@@ -27,6 +27,13 @@
     YES(0) "&" YES(1) "&" YES(2) "&" YES(3) "&" YES(4) "&" YES(5) "&" YES(6) "&" YES(7) "&" YES(8) "&" YES(9) "&"                           \
     YES(0) "&" YES(1) "&" YES(2) "&" YES(3) "&" "!!!!!!!!"
 
+/* "a or not a, or 9", which every set satisfies where 9 is the undo of a; and 17 such, one "9 or not 9", and four "not", 127 bytes. */
+#define YES_OR_UNDONE(a) #a #a "!|9|"
+#define YES_PAIRED_127 \
+    YES_OR_UNDONE(0) YES_OR_UNDONE(1) "&" YES_OR_UNDONE(2) "&" YES_OR_UNDONE(3) "&" YES_OR_UNDONE(4) "&" YES_OR_UNDONE(5) "&" \
+    YES_OR_UNDONE(6) "&" YES_OR_UNDONE(7) "&" YES_OR_UNDONE(8) "&" YES_OR_UNDONE(0) "&" YES_OR_UNDONE(1) "&" YES_OR_UNDONE(2) "&" \
+    YES_OR_UNDONE(3) "&" YES_OR_UNDONE(4) "&" YES_OR_UNDONE(5) "&" YES_OR_UNDONE(6) "&" YES_OR_UNDONE(7) "&" YES(9) "&" "!!!!"
+
 /* Ten actions side by side, each of which may do either and has "skip" as its handler: 39 nodes, each of the 1,024 sets under code 1. */
 #define EITHER_TEN "0s> 1s>| 2s>| 3s>| 4s>| 5s>| 6s>| 7s>| 8s>| 9s>|"
 
@@ -66,6 +73,7 @@ const struct named_case CASES[] = {
     /* Every set occurs and satisfies the rule. */
     {"all sets", "3333333333", "", EITHER_TEN, YES(0)},
     {"all sets, long rule", "3333333333", "", EITHER_TEN, YES_127},
+    {"all sets, nine pairs", "3333333333", "091929394959697989", EITHER_TEN, YES_PAIRED_127},
 
     /* Full families. The late rule is "not all ten", which the last set alone breaks. */
     {"full families", "3333333333", "", FULL, YES(0)},

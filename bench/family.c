@@ -3,8 +3,7 @@
 
 #include <string.h>
 
-/* HIGH[k] has the bits whose number has bit k. */
-static const uint64_t HIGH[6] = {
+const uint64_t HIGH[6] = {
     0xaaaaaaaaaaaaaaaa, 0xcccccccccccccccc, 0xf0f0f0f0f0f0f0f0,
     0xff00ff00ff00ff00, 0xffff0000ffff0000, 0xffffffff00000000,
 };

@@ -33,6 +33,17 @@ static inline int family_is_empty(const word *f)
     return 1;
 }
 
+/* HIGH[k] has the bits whose number has bit k. */
+extern const uint64_t HIGH[6];
+
+/* The sets of word w that have the action: all or none from action 6 on. */
+static inline uint64_t family_having(unsigned action, uint64_t w)
+{
+    if (action < 6)
+        return HIGH[action];
+    return w >> (action - 6) & 1 ? ~0ull : 0;
+}
+
 /* The unions of a set of a and a set of b. */
 void family_product(word *out, const word *a, const word *b);
 

@@ -1,5 +1,5 @@
 /* Random plans, good and damaged, and lent areas of any size: the proved verdict and the C one must answer the same, and leave the same in
-   every lent byte and in those past them. fuzz [COUNT [SEED]]; it ends with 1 at the first disagreement, which it prints. */
+   every lent byte and in those past them; compiled with BEFORE, another build of the proved one too. fuzz [COUNT [SEED]]; it ends with 1 at the first disagreement, which it prints. */
 #include <stdio.h>
 #include <stdlib.h>
 #include <string.h>
@@ -8,15 +8,13 @@
 #include "check.h"
 #include "verdict.h"
 
-typedef uint32_t verdict_fn(const uint8_t *, size_t, uint8_t *, size_t, uint8_t *, size_t);
-
 /* A file, and how much of the two areas is lent with it. */
 struct trial {
     struct plan_file file;
     size_t work_len, record_len;
 };
 
-static struct answer before, proved, plain;
+static struct answer before, proved, other;
 static unsigned long consistent, violated, refused[16];
 
 static void ask(verdict_fn *f, const struct trial *t, struct answer *a)
@@ -33,19 +31,32 @@ static void print_hex(const char *what, const uint8_t *b, size_t n)
     putchar('\n');
 }
 
-static int report(const struct trial *t, const char *fault)
+static int report(const struct trial *t, const char *name, const char *fault)
 {
-    printf("%s\nwork area %zu, record area %zu\nproved %x, C %x\n", fault, t->work_len, t->record_len, (unsigned)proved.result,
-           (unsigned)plain.result);
+    printf("%s\nwork area %zu, record area %zu\nproved %x, %s %x\n", fault, t->work_len, t->record_len, (unsigned)proved.result, name,
+           (unsigned)other.result);
     print_hex("file", t->file.bytes, t->file.len);
     print_hex("record, proved", proved.record, RECORD_ROOM);
-    print_hex("record, C", plain.record, RECORD_ROOM);
+    print_hex("record, the other", other.record, RECORD_ROOM);
     for (size_t i = 0; i < WORK_ROOM; i++)
-        if (proved.work[i] != plain.work[i]) {
-            printf("work areas differ first at %zu: %02x, %02x\n", i, proved.work[i], plain.work[i]);
+        if (proved.work[i] != other.work[i]) {
+            printf("work areas differ first at %zu: %02x, %02x\n", i, proved.work[i], other.work[i]);
             break;
         }
     return 1;
+}
+
+/* What differs between the proved verdict and another one, whose answer is put into `other`; 0 where nothing does. */
+static const char *difference(verdict_fn *f, const struct trial *t)
+{
+    ask(f, t, &other);
+    if (proved.result != other.result)
+        return "the answers differ";
+    if (memcmp(proved.work, other.work, WORK_ROOM))
+        return "the work areas differ";
+    if (memcmp(proved.record, other.record, RECORD_ROOM))
+        return "the record areas differ";
+    return 0;
 }
 
 static int differ(const struct trial *t, uint64_t seed)
@@ -55,16 +66,17 @@ static int differ(const struct trial *t, uint64_t seed)
     fill_areas(&before, seed);
     ask(vodjimar_verdict, t, &proved);
     if (memcmp(&kept, &t->file, sizeof kept))
-        return report(t, "proved: the file was changed");
-    ask(plain_verdict, t, &plain);
-    if (proved.result != plain.result)
-        return report(t, "the answers differ");
-    if (memcmp(proved.work, plain.work, WORK_ROOM))
-        return report(t, "the work areas differ");
-    if (memcmp(proved.record, plain.record, RECORD_ROOM))
-        return report(t, "the record areas differ");
+        return report(t, "proved", "the file was changed");
+#ifdef BEFORE
+    fault = difference(vodjimar_before, t);
+    if (fault)
+        return report(t, "before", fault);
+#endif
+    fault = difference(plain_verdict, t);
+    if (fault)
+        return report(t, "C", fault);
     fault = answer_fault(t->file.bytes, t->file.len, &before, &proved);
-    return fault ? report(t, fault) : 0;
+    return fault ? report(t, "C", fault) : 0;
 }
 
 static void count(uint32_t v)
@@ -117,7 +129,7 @@ int main(int argc, char **argv)
             printf("at plan %lu of seed %llu\n", i, (unsigned long long)seed);
             return 1;
         }
-        count(plain.result);
+        count(proved.result);
     }
     printf("%lu random plans, seed %llu, and %u named ones: no disagreement\nconsistent %lu, violated %lu, refused by number:", total,
            (unsigned long long)seed, CASE_COUNT, consistent, violated);

@@ -6,47 +6,58 @@
 #include "shown.h"
 #include "summary.h"
 
-/* How many undos of the action are finished in the set. */
-static unsigned undos_finished(const struct layout *p, unsigned set, unsigned action)
+/* One mask of undos for each action. */
+static void fill_masks(const struct layout *p, uint64_t masks[MOST_ACTIONS])
 {
-    unsigned undos = 0;
+    memset(masks, 0, MOST_ACTIONS * sizeof *masks);
     for (unsigned i = 0; i < p->pair_count; i++)
-        if (p->pairs[2 * i] == action && (set >> p->pairs[2 * i + 1] & 1))
-            undos++;
-    return undos;
+        masks[p->pairs[2 * i]] |= 1ull << p->pairs[2 * i + 1];
 }
 
-/* The normalised rule. Two stacks of bits, the last value in bit 0: at most 64 values stand in a rule of 127 bytes. */
-static int satisfies(const struct layout *p, unsigned set)
+/* The sets of word w that have an action of the mask. */
+static uint64_t meeting(uint64_t mask, unsigned w)
 {
-    uint64_t pos = 0, neg = 0;
-    for (unsigned i = 0; i < p->rule_len; i++) {
-        unsigned t = p->rule[i];
-        uint64_t p1 = pos & 1, n1 = neg & 1, p2 = pos >> 1 & 1, n2 = neg >> 1 & 1;
+    uint64_t sets = 0;
+    for (; mask; mask &= mask - 1)
+        sets |= family_having(__builtin_ctzll(mask), w);
+    return sets;
+}
+
+/* The normalised rule at the sets 64 w + i, bit i for each. Two stacks of words in a round of 64 places: no more values stand in a rule of 127 bytes. */
+static uint64_t satisfying(const uint8_t *rule, unsigned len, const uint64_t *masks, unsigned w)
+{
+    uint64_t pos[64] = {0}, neg[64] = {0};
+    unsigned top = 0;
+    for (unsigned i = 0; i < len; i++) {
+        unsigned t = rule[i], below = (top + 63) % 64;
+        uint64_t p = pos[top], n = neg[top];
         if (t == NOT) {
-            pos = pos >> 1 << 1 | n1;
-            neg = neg >> 1 << 1 | p1;
-        } else if (t == AND) {
-            pos = pos >> 2 << 1 | (p1 & p2);
-            neg = neg >> 2 << 1 | (n1 | n2);
-        } else if (t == OR) {
-            pos = pos >> 2 << 1 | (p1 | p2);
-            neg = neg >> 2 << 1 | (n1 & n2);
+            pos[top] = n, neg[top] = p;
+        } else if (t == AND || t == OR) {
+            pos[top] = neg[top] = 0;
+            pos[below] = t == AND ? pos[below] & p : pos[below] | p;
+            neg[below] = t == AND ? neg[below] | n : neg[below] & n;
+            top = below;
         } else {
-            unsigned undos = undos_finished(p, set, t), finished = set >> t & 1;
-            pos = pos << 1 | (finished && undos == 0);
-            neg = neg << 1 | (finished ? undos != 0 : undos == 0);
+            uint64_t finished = family_having(t, w), undone = meeting(masks[t], w);
+            top = (top + 1) % 64;
+            pos[top] = finished & ~undone;
+            neg[top] = (finished & undone) | ~(finished | undone);
         }
     }
-    return pos & 1;
+    return pos[top];
 }
 
 /* The smallest set of the family that breaks the rule; SETS where there is none. */
 static unsigned least_violating(const struct layout *p, const word *sets)
 {
-    for (unsigned set = 0; set < SETS; set++)
-        if (family_has(sets, set) && !satisfies(p, set))
-            return set;
+    uint64_t masks[MOST_ACTIONS];
+    fill_masks(p, masks);
+    for (unsigned w = 0; w < WORDS; w++) {
+        uint64_t broken = sets[w] ? sets[w] & ~satisfying(p->rule, p->rule_len, masks, w) : 0;
+        if (broken)
+            return 64 * w + __builtin_ctzll(broken);
+    }
     return SETS;
 }
 

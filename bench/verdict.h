@@ -16,4 +16,11 @@ uint32_t plain_verdict(const uint8_t *file, size_t file_len, uint8_t *work, size
 /* The proved one, from the static library. */
 uint32_t vodjimar_verdict(const uint8_t *file, size_t file_len, uint8_t *work, size_t work_len, uint8_t *record, size_t record_len);
 
+/* Another build of it, where bench/run is given one to compare with. */
+#ifdef BEFORE
+uint32_t vodjimar_before(const uint8_t *file, size_t file_len, uint8_t *work, size_t work_len, uint8_t *record, size_t record_len);
+#endif
+
+typedef uint32_t verdict_fn(const uint8_t *, size_t, uint8_t *, size_t, uint8_t *, size_t);
+
 #endif

@@ -1,3 +1,4 @@
 pub mod Numbers
 pub mod Bits
 pub mod Words
+pub mod Patterns

@@ -4,7 +4,7 @@ use mathlib.Core.Path.{_≡_}
 use mathlib.Core.Bool.{Bool, true}
 use mathlib.Core.Logic.{_⊎_}
 use mathlib.Core.List.{List}
-use Prim.Native.Nat.{ℕ, _/_, _%_, _^_, _<_}
+use Prim.Native.Nat.{ℕ, _+_, _*_, _/_, _%_, _^_, _<_}
 use lib.Bits.{bitOr}
 use lib.ListN.{getD}
 
@@ -39,3 +39,7 @@ pub record Joined (a b r : List ℕ) : Type 0 where
 pub record TellsEmpty (f : List ℕ) (answer : Bool) : Type 0 where
   pub sound : answer ≡ true → Empty f
   pub complete : Empty f → answer ≡ true
+
+-- r is word w of the family of the sets that have the action: bit i is the action's in the set 64 w + i.
+pub record Having (action w r : ℕ) : Type 0 where
+  pub bits : (i : ℕ) → i < 64 → bitAt r i ≡ bitAt (w * 64 + i) action

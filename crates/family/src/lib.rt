@@ -2,7 +2,7 @@
 // words of 64 bits.
 ghost use mathlib.Core.Path.{_≡_};
 ghost use lib.Dec.{eqb};
-ghost use Rattle.family.specs.Family.{hasAt, Empty, Single, Joined, TellsEmpty};
+ghost use Rattle.family.specs.Family.{hasAt, Empty, Single, Joined, TellsEmpty, Having};
 
 // The family with no set.
 pub fn empty() -> [u64; 16]
@@ -58,4 +58,36 @@ pub fn join(a: [u64; 16], b: [u64; 16]) -> [u64; 16]
         i += 1;
     }
     r
+}
+
+// The places of a word whose number has the action: one of six patterns, and none from action 6 on.
+pub fn pattern(action: usize) -> u64
+    ensures { λ r. ⌜ Having action 0 r ⌝ }
+{
+    match action {
+        0 => 0xaaaaaaaaaaaaaaaa,
+        1 => 0xcccccccccccccccc,
+        2 => 0xf0f0f0f0f0f0f0f0,
+        3 => 0xff00ff00ff00ff00,
+        4 => 0xffff0000ffff0000,
+        5 => 0xffffffff00000000,
+        _ => 0,
+    }
+}
+
+// The sets of word w that have the action: its pattern below 6, and from there on all or none, by the number of the word.
+pub fn having(action: usize, w: usize) -> u64
+    ensures { λ r. ⌜ Having action w r ⌝ }
+{
+    if action < 6 {
+        return pattern(action);
+    }
+    let high = action - 6;
+    if 64 <= high {
+        return 0;
+    }
+    if (w >> high) % 2 == 1 {
+        return 0xffffffffffffffff;
+    }
+    0
 }

@@ -1,9 +1,10 @@
 -- The smallest of a plan's sets that breaks its rule, "read as a number", from the families of its whole process.
 use mathlib.Core.Path.{_≡_}
-use mathlib.Core.Bool.{true, false}
+use mathlib.Core.Bool.{Bool, true, false, not, _&&_}
 use mathlib.Core.List.{List}
-use Prim.Native.Nat.{ℕ, _≤_}
-use Rattle.family.specs.Family.{In}
+use Prim.Native.Nat.{ℕ, _%_, _≤_}
+use lib.Dec.{eqb}
+use Rattle.family.specs.Family.{bitAt, In}
 use Rattle.process.specs.Process.{Status}
 use Rattle.outcomes.specs.Codes.{Final}
 use Rattle.meaning.specs.Value.{satisfies}
@@ -27,6 +28,10 @@ pub record Finals (s : Summary) (r : List ℕ) : Type 0 where
 -- "otherwise it breaks the rule"
 abbrev pub Breaks : List ℕ → List ℕ → ℕ → Type 0
 Breaks rule pairs t = satisfies rule pairs t ≡ false
+
+-- The set has its bit in a word of the family, and breaks the rule.
+abbrev pub violates : List ℕ → List ℕ → ℕ → ℕ → Bool
+violates rule pairs word set = eqb (bitAt word (set % 64)) 1 && not (satisfies rule pairs set)
 
 -- t is the smallest set of the family that breaks the rule.
 pub record Smallest (rule pairs f : List ℕ) (t : ℕ) : Type 0 where

@@ -1,10 +1,9 @@
 // The smallest of a plan's sets that breaks its rule.
-ghost use mathlib.Core.Path.{_≡_};
-ghost use mathlib.Core.Bool.{not, _&&_};
-ghost use lib.Dec.{eqb};
-ghost use Rattle.family.specs.Family.{hasAt};
-ghost use Rattle.meaning.specs.Value.{satisfies};
-ghost use Rattle.least.specs.Least.{Finals, LeastOf};
+ghost use mathlib.Core.List.{List};
+ghost use Prim.Native.Nat.{ℕ};
+ghost use Rattle.undos.specs.Masks.{Masks};
+ghost use Rattle.rule.specs.Words.{Tells};
+ghost use Rattle.least.specs.Least.{Finals, violates, LeastOf};
 use summary::Summary;
 
 pub enum Least {
@@ -23,26 +22,31 @@ pub fn finals(s: Summary) -> [u64; 16]
     family::join(s1, failed)
 }
 
-// Whether the set is in the family and breaks the rule.
-fn is_violation(rule: &[u8], pairs: &[u8], f: [u64; 16], t: usize) -> bool
-    ensures { λ r. ⌜ r ≡ (eqb (hasAt f t) 1 && not (satisfies (now (rule .entry)) (now (pairs .entry)) t)) ⌝ }
+// The sets of a word of the family that break the rule: bit i for the set 64 w + i. A word without sets is passed over.
+fn violations(rule: &[u8], masks: &[u64; 256], sets: u64, w: u32) -> u64
+    ensures { λ r. ⌜ ((pairs : List ℕ) → Masks pairs (now (masks .entry)) → Tells w r (λ set. violates (now (rule .entry)) pairs sets set)) ⌝ }
 {
-    if family::member(f, t) {
-        return !rule::satisfies(rule, pairs, t);
+    if sets == 0 {
+        return 0;
     }
-    false
+    sets & !rule::satisfying(rule, masks, w)
 }
 
-// The smallest set of the family that breaks the rule.
+// The smallest set of the family that breaks the rule. The pairs are made into masks once.
 pub fn find(rule: &[u8], pairs: &[u8], f: [u64; 16]) -> Least
     ensures { λ r. ⌜ LeastOf (now (rule .entry)) (now (pairs .entry)) f r ⌝ }
 {
-    let mut t = 0;
-    while t < 1024 {
-        if is_violation(rule, pairs, f, t) {
-            return Least::Found(t);
+    let mut masks = [0u64; 256];
+    undos::fill(&mut masks, pairs);
+    let mut w = 0;
+    while w < 16 {
+        let broken = violations(rule, &masks, f[w], w as u32);
+        if broken != 0 {
+            let low = u64::trailing_zeros(broken) as usize;
+            let set = w * 64 + low;
+            return Least::Found(set);
         }
-        t += 1;
+        w += 1;
     }
     Least::Nothing
 }

@@ -15,22 +15,12 @@ fn is_unit(f: [u64; 16]) -> bool
     family::is_empty(rest)
 }
 
-// HIGH[k] has the bits j whose number has bit k.
-const HIGH: [u64; 6] = [
-    0xaaaaaaaaaaaaaaaa,
-    0xcccccccccccccccc,
-    0xf0f0f0f0f0f0f0f0,
-    0xff00ff00ff00ff00,
-    0xffff0000ffff0000,
-    0xffffffff00000000,
-];
-
 // The sets of a word, action k added to each.
 fn with_action(w: u64, k: usize) -> u64
     requires { ⌜ k < 6 ⌝ }
     ensures { λ r. ⌜ Spread w (2 ^ k) r ⌝ }
 {
-    let m = HIGH[k];
+    let m = family::pattern(k);
     let s = 1usize << k;
     (w | (w << s)) & m
 }

@@ -1,2 +1,4 @@
 pub mod Words
+pub mod Gathered
+pub mod Places
 pub mod Scan

@@ -1,49 +1,106 @@
--- A stack as a word, one bit for each value: the last value is the word's lowest bit, the values before it are its half, and the last k
--- values its remainder by 2 ^ k.
-use mathlib.Core.Path.{_≡_, refl, sym, ap, _∙_}
-use mathlib.Core.Bool.{Bool, true, false}
-use mathlib.Core.List.{List, [], _∷_}
-use Prim.Native.Nat.{ℕ, zero, suc, _+_, _*_, _/_, _%_, _^_, _≤_}
-use native.Mathlib.Numerals.{add-one}
-use native.Mathlib.Nat.{zero-mod, mod-one}
+-- Words that tell a test's answers at 64 sets are joined as the answers are: and, or, not, bit by bit. So are the two values of a part, and so
+-- come the values of a literal from which sets have the action and which have an undo of it.
+use mathlib.Core.Path.{_≡_, refl, ap, ap₂, _∙_}
+use mathlib.Core.Bool.{Bool, true, false, not, _&&_, _||_}
+use mathlib.Core.List.{List}
+use mathlib.Core.Logic.{inl, inr}
+use Prim.Native.Nat.{ℕ, _+_, _-_, _*_, _/_, _%_, _^_, _<_, max, min}
+use native.Mathlib.Nat.{mod-lt, div-add-mod'}
 use native.Mathlib.Omega.{arith}
+use lib.Bits.{bitOr, bitAnd, or-lt}
 use lib.Dec.{eqb}
-use lib.ListN.{take}
-use lib.Pow.{mod-pow-add}
+use lib.ListN.{getD}
+use borrow.Author.Tests.{eq-eqb, ne-eqb}
 use Rattle.blocks.specs.Bounded.{one}
-use Rattle.blocks.proofs.Bounded.{one-most}
+use Rattle.family.specs.Family.{bitAt}
+use Rattle.family.proofs.Numbers.{same-or-other}
+use Rattle.family.proofs.Bits.{bit-or, bit-and, bit-not}
 use Rattle.meaning.specs.declared.Value.{Value}
-use Rattle.meaning.specs.Value.{push, top, below}
-use Rattle.rule.specs.Words.{word}
+use Rattle.meaning.specs.Literal.{finished, undosFinished, literal}
+use Rattle.meaning.specs.Meaning.{swapped, both, either}
+use Rattle.rule.specs.declared.Values.{Values}
+use Rattle.undos.specs.Masks.{Masks, meets}
+use Rattle.rule.specs.Words.{Tells, TellsValues}
+use Rattle.undos.proofs.Meets.{meets-mask}
 
-is-one : (t : Bool) → eqb (one t) 1 ≡ t
+one-and : (a b : Bool) → min (one a) (one b) ≡ one (a && b)
+one-and true true = refl
+one-and true false = refl
+one-and false true = refl
+one-and false false = refl
+
+one-or : (a b : Bool) → max (one a) (one b) ≡ one (a || b)
+one-or true true = refl
+one-or true false = refl
+one-or false true = refl
+one-or false false = refl
+
+one-not : (a : Bool) → 1 - one a ≡ one (not a)
+one-not true = refl
+one-not false = refl
+
+module _ {w : ℕ} where
+  pub tells-and : {p q : ℕ} {f g : ℕ → Bool} → Tells w p f → Tells w q g → Tells w (bitAnd p q) (λ set. f set && g set)
+  tells-and {p} {q} {f} {g} hp hq = record { bits = λ i l. bit-and p q i ∙ ap₂ min (hp .bits i l) (hq .bits i l) ∙ one-and (f (w * 64 + i)) (g (w * 64 + i)) }
+
+  pub tells-or : {p q : ℕ} {f g : ℕ → Bool} → Tells w p f → Tells w q g → Tells w (bitOr p q) (λ set. f set || g set)
+  tells-or {p} {q} {f} {g} hp hq = record { bits = λ i l. bit-or p q i ∙ ap₂ max (hp .bits i l) (hq .bits i l) ∙ one-or (f (w * 64 + i)) (g (w * 64 + i)) }
+
+  pub tells-not : {p : ℕ} {f : ℕ → Bool} → p < 2 ^ 64 → Tells w p f → Tells w (2 ^ 64 - 1 - p) (λ set. not (f set))
+  tells-not {p} {f} fits hp = record { bits = λ i l. bit-not 64 p i fits l ∙ ap (λ (b : ℕ). 1 - b) (hp .bits i l) ∙ one-not (f (w * 64 + i)) }
+
+  pub tells-same : {p : ℕ} {f g : ℕ → Bool} → ((i : ℕ) → i < 64 → f (w * 64 + i) ≡ g (w * 64 + i)) → Tells w p f → Tells w p g
+  tells-same same hp = record { bits = λ i l. hp .bits i l ∙ ap one (same i l) }
+
+-- a bit as a test's answer
+pub one-bit : (b : ℕ) → b < 2 → b ≡ one (eqb b 1)
+one-bit b l = elim (same-or-other b 1) [ inl e ↦ rw (eq-eqb b 1 e) e | inr d ↦ rw (ne-eqb b 1 d) (omega arith) ]
+
+-- one set's answer
+is-one : (a : Bool) → eqb (one a) 1 ≡ a
 is-one true = refl
 is-one false = refl
 
-module _ (which : Value → Bool) where
-  pub word-last : (stack : List Value) → which (top []) ≡ false → eqb (word which stack % 2) 1 ≡ which (top stack)
-  unfolding word
-  word-last [] none = sym none
-  word-last (v ∷ stack) none =
-      let e : (one (which v) + 2 * word which stack) % 2 ≡ one (which v) = omega (arith, one-most (which v)) in
-      rw e (is-one (which v))
+pub told-of : {r : ℕ} {f : ℕ → Bool} (set : ℕ) → Tells (set / 64) r f → eqb (bitAt r (set % 64)) 1 ≡ f set
+told-of {r} {f} set h = rw (h .bits (set % 64) (mod-lt set (omega arith)), div-add-mod' set 64) (is-one (f set))
 
-  pub word-below : (stack : List Value) → word which stack / 2 ≡ word which (below stack)
-  unfolding word
-  word-below [] = refl
-  word-below (v ∷ stack) = omega (arith, one-most (which v))
+-- the two values of a part
+module _ {w : ℕ} where
+  pub tells-swapped : {r : Values} {v : ℕ → Value} → TellsValues w r v → TellsValues w (record { positives = r .negatives; negatives = r .positives }) (λ set. swapped (v set))
+  tells-swapped h = record { positives = record { bits = h .negatives .bits }; negatives = record { bits = h .positives .bits } }
 
-  word-take : (k : ℕ) (stack : List Value) → word which stack % 2 ^ k ≡ word which (take k stack)
-  unfolding word
-  word-take zero stack = mod-one (word which stack)
-  word-take (suc k) [] = zero-mod (2 ^ suc k)
-  word-take (suc k) (v ∷ stack) =
-      let w = one (which v) + 2 * word which stack in
-      let half : w / 2 ≡ word which stack = omega (arith, one-most (which v)) in
-      let e : w % 2 ^ suc k ≡ (w / 2 % 2 ^ k) * 2 + w % 2 = rw add-one at (mod-pow-add w k 1) in
-      let rest : w / 2 % 2 ^ k ≡ word which (take k stack) = ap (λ (x : ℕ). x % 2 ^ k) half ∙ word-take k stack in
-      omega (arith, one-most (which v), e, rest)
+  pub tells-both : {l r : Values} {u v : ℕ → Value} → TellsValues w l u → TellsValues w r v
+      → TellsValues w (record { positives = bitAnd (l .positives) (r .positives); negatives = bitOr (l .negatives) (r .negatives) }) (λ set. both (u set) (v set))
+  tells-both h k = record { positives = record { bits = tells-and (h .positives) (k .positives) .bits }; negatives = record { bits = tells-or (h .negatives) (k .negatives) .bits } }
 
-  pub word-push : (v : Value) (stack : List Value) → word which stack % 2 ^ 63 * 2 + one (which v) ≡ word which (push v stack)
-  unfolding word
-  word-push v stack = omega (arith, word-take 63 stack)
+  pub tells-either : {l r : Values} {u v : ℕ → Value} → TellsValues w l u → TellsValues w r v
+      → TellsValues w (record { positives = bitOr (l .positives) (r .positives); negatives = bitAnd (l .negatives) (r .negatives) }) (λ set. either (u set) (v set))
+  tells-either h k = record { positives = record { bits = tells-or (h .positives) (k .positives) .bits }; negatives = record { bits = tells-and (h .negatives) (k .negatives) .bits } }
+
+-- the two values of a literal, from "the action is finished" and "an undo of it is"
+positive-of : (f z : Bool) → f && not (not z) ≡ f && z
+positive-of f true = refl
+positive-of f false = refl
+
+negative-of : (f z : Bool) → (f && not z) || not (f || not z) ≡ (not f && z) || (f && not z)
+negative-of true true = refl
+negative-of true false = refl
+negative-of false true = refl
+negative-of false false = refl
+
+module _ (pairs masks : List ℕ) (m : Masks pairs masks) (w a : ℕ) (byte : a < 256) (small : w < 2 ^ 32) (p q : ℕ) (fp : p < 2 ^ 64) (fq : q < 2 ^ 64)
+    (acts : Tells w p (λ set. finished set a)) (undone : Tells w q (λ set. meets set (getD masks a 0))) where
+  undone-at : (i : ℕ) → i < 64 → meets (w * 64 + i) (getD masks a 0) ≡ not (eqb (undosFinished pairs (w * 64 + i) a) 0)
+  undone-at i l = meets-mask (w * 64 + i) (omega arith) pairs masks m a byte
+
+  pub literal-told : TellsValues w (record { positives = bitAnd p (2 ^ 64 - 1 - q); negatives = bitOr (bitAnd p q) (2 ^ 64 - 1 - bitOr p q) }) (λ set. literal pairs set a)
+  literal-told = record {
+    positives =
+        tells-same
+        (λ i l. ap (λ (u : Bool). finished (w * 64 + i) a && not u) (undone-at i l) ∙ positive-of (finished (w * 64 + i) a) (eqb (undosFinished pairs (w * 64 + i) a) 0))
+        (tells-and acts (tells-not fq undone));
+    negatives =
+        tells-same
+        (λ i l. ap (λ (u : Bool). (finished (w * 64 + i) a && u) || not (finished (w * 64 + i) a || u)) (undone-at i l) ∙ negative-of (finished (w * 64 + i) a) (eqb (undosFinished pairs (w * 64 + i) a) 0))
+        (tells-or (tells-and acts undone) (tells-not (or-lt 64 p q fp fq) (tells-or acts undone)));
+  }

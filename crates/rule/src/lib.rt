@@ -1,178 +1,126 @@
-// Whether an action set satisfies a rule. The rule and the pairs are lent; nothing else of a plan is seen.
-use meaning::Value;
+// Whether action sets satisfy a rule, 64 sets at a time: the sets 64 w to 64 w + 63 are the bits of one word. The rule's bytes and the masks of
+// undos are lent; nothing else of a plan is seen.
 ghost use mathlib.Core.Path.{_≡_};
 ghost use mathlib.Core.List.{List};
-ghost use mathlib.Core.Bool.{_&&_};
-ghost use Prim.Native.Nat.{_+_, _*_, _%_, _^_};
-ghost use lib.Dec.{eqb};
-ghost use Rattle.blocks.specs.Bounded.{one};
-ghost use Rattle.meaning.specs.Literal.{finished, undosFinished, literal};
-ghost use Rattle.meaning.specs.Meaning.{swapped, both, either};
-ghost use Rattle.meaning.specs.Value.{push, top, below, step, satisfies};
-ghost use Rattle.rule.specs.Words.{Holds};
+ghost use Prim.Native.Nat.{ℕ, _<_};
+ghost use lib.ListN.{set};
+ghost use Rattle.meaning.specs.Literal.{literal};
+ghost use Rattle.meaning.specs.Value.{satisfies};
+ghost use Rattle.undos.specs.Masks.{Masks, meets};
+ghost use Rattle.rule.specs.Words.{Tells, TellsValues, Stepped};
 
-// A stack of 64 values, the last one in bit 0 of the two words. A place without a value is 0 in both.
-struct Stack {
+// The two values of a part of the rule at the sets of a word.
+struct Values {
     pub positives: u64,
     pub negatives: u64,
 }
 
-// Whether the bit of the action is in the set.
-fn is_finished(set: usize, action: u8) -> bool
-    ensures { λ r. ⌜ r ≡ finished set action ⌝ }
+// The sets of word w that have an action of the mask, action by action.
+fn meeting(mask: u64, w: u32) -> u64
+    ensures { λ r. ⌜ Tells w r (λ set. meets set mask) ⌝ }
 {
-    if action < 64 {
-        return (set >> action) % 2 == 1;
+    let mut sets = 0;
+    let mut rest = mask;
+    while rest != 0 {
+        let action = u64::trailing_zeros(rest) as usize;
+        sets = sets | family::having(action, w as usize);
+        rest = rest & (rest - 1);
     }
-    false
-}
-
-// 1 where the pair is one of the action, and its undo is finished.
-fn undone_by(first: u8, undo: u8, action: u8, set: usize) -> usize
-    ensures { λ r. ⌜ r ≡ one (eqb first action && finished set undo) ⌝ }
-{
-    if first == action {
-        if is_finished(set, undo) {
-            return 1;
-        }
-        return 0;
-    }
-    0
-}
-
-// How many undos of the action are finished.
-fn undos_finished(pairs: &[u8], action: u8, set: usize) -> usize
-    ensures { λ r. ⌜ r ≡ undosFinished (now (pairs .entry)) set action ⌝ }
-{
-    let n = pairs.len() / 2;
-    let mut undos = 0;
-    let mut i = 0;
-    while i < n {
-        undos += undone_by(pairs[2 * i], pairs[2 * i + 1], action, set);
-        i += 1;
-    }
-    undos
+    sets
 }
 
 // The two values of the action.
-fn literal_of(pairs: &[u8], action: u8, set: usize) -> Value
-    ensures { λ r. ⌜ r ≡ literal (now (pairs .entry)) set action ⌝ }
+fn literal_of(masks: &[u64; 256], action: u8, w: u32) -> Values
+    ensures { λ r. ⌜ ((pairs : List ℕ) → Masks pairs (now (masks .entry)) → TellsValues w r (λ set. literal pairs set action)) ⌝ }
 {
-    let undos = undos_finished(pairs, action, set);
-    if is_finished(set, action) {
-        return Value {
-            positive: undos == 0,
-            negative: undos != 0,
-        };
-    }
-    Value {
-        positive: false,
-        negative: undos == 0,
+    let at = blocks::wide(action);
+    let finished = family::having(at, w as usize);
+    let undone = meeting(masks[at], w);
+    Values {
+        positives: finished & !undone,
+        negatives: (finished & undone) | !(finished | undone),
     }
 }
 
-// Not swaps the two values.
-fn not_of(v: Value) -> Value
-    ensures { λ r. ⌜ r ≡ swapped v ⌝ }
+// Puts a value at a place of the stack.
+fn put(positives: &mut [u64; 64], negatives: &mut [u64; 64], at: usize, v: Values)
+    requires { ⌜ at < 64 ⌝ }
+    ensures { λ r. ⌜ (now (positives .exit) ≡ set (now (positives .entry)) at (v .positives)) × (now (negatives .exit) ≡ set (now (negatives .entry)) at (v .negatives)) ⌝ }
 {
-    Value {
-        positive: v.negative,
-        negative: v.positive,
-    }
+    positives[at] = v.positives;
+    negatives[at] = v.negatives;
 }
 
-// And and or take the negative value by De Morgan.
-fn and_of(v: Value, w: Value) -> Value
-    ensures { λ r. ⌜ r ≡ both v w ⌝ }
+// What the byte `t` of a rule does to the stack, whose last value is at `top`: not, and, or, or an action. Gives the place of the last value then.
+fn stepped(
+    positives: &mut [u64; 64],
+    negatives: &mut [u64; 64],
+    top: usize,
+    t: u8,
+    masks: &[u64; 256],
+    w: u32,
+) -> usize
+    requires { ⌜ top < 64 ⌝ }
+    ensures { λ r. ⌜ Stepped (now (masks .entry)) w t (now (positives .entry)) (now (negatives .entry)) top (now (positives .exit)) (now (negatives .exit)) r ⌝ }
 {
-    Value {
-        positive: v.positive & w.positive,
-        negative: v.negative | w.negative,
-    }
-}
-
-fn or_of(v: Value, w: Value) -> Value
-    ensures { λ r. ⌜ r ≡ either v w ⌝ }
-{
-    Value {
-        positive: v.positive | w.positive,
-        negative: v.negative & w.negative,
-    }
-}
-
-// The last value; of an empty stack, one that is neither positive nor negative.
-fn last(words: Stack) -> Value
-    ensures { λ r. ⌜ ((stack : List Value) → Holds words stack → r ≡ top stack) ⌝ }
-{
-    Value {
-        positive: words.positives % 2 == 1,
-        negative: words.negatives % 2 == 1,
-    }
-}
-
-// The stack without its last value.
-fn dropped(words: Stack) -> Stack
-    ensures { λ r. ⌜ ((stack : List Value) → Holds words stack → Holds r (below stack)) ⌝ }
-{
-    Stack {
-        positives: words.positives / 2,
-        negatives: words.negatives / 2,
-    }
-}
-
-// The bits one place up, the highest lost, and `b` in bit 0.
-fn raised(word: u64, b: bool) -> u64
-    ensures { λ r. ⌜ r ≡ word % 2 ^ 63 * 2 + one b ⌝ }
-{
-    let rest = word % 0x8000000000000000 * 2;
-    if b {
-        return rest + 1;
-    }
-    rest
-}
-
-// The stack with a value more; beyond 64 the oldest is lost.
-fn pushed(words: Stack, v: Value) -> Stack
-    ensures { λ r. ⌜ ((stack : List Value) → Holds words stack → Holds r (push v stack)) ⌝ }
-{
-    Stack {
-        positives: raised(words.positives, v.positive),
-        negatives: raised(words.negatives, v.negative),
-    }
-}
-
-// What the byte `t` of a rule does to the stack: not, and, or, or an action.
-fn stepped(words: Stack, t: u8, pairs: &[u8], set: usize) -> Stack
-    ensures { λ r. ⌜ ((stack : List Value) → Holds words stack → Holds r (step (now (pairs .entry)) set t stack)) ⌝ }
-{
-    let right = last(words);
-    let rest = dropped(words);
+    let right = positives[top];
+    let not_right = negatives[top];
     if t == 0x80 {
-        return pushed(rest, not_of(right));
+        let swapped = Values {
+            positives: not_right,
+            negatives: right,
+        };
+        put(positives, negatives, top, swapped);
+        return top;
     }
-    let left = last(rest);
-    let under = dropped(rest);
-    if t == 0x81 {
-        return pushed(under, and_of(left, right));
-    }
-    if t == 0x82 {
-        return pushed(under, or_of(left, right));
-    }
-    pushed(words, literal_of(pairs, t, set))
-}
-
-// Whether the set satisfies the rule: bit a of the set is there where action a finished.
-pub fn satisfies(rule: &[u8], pairs: &[u8], set: usize) -> bool
-    ensures { λ r. ⌜ r ≡ satisfies (now (rule .entry)) (now (pairs .entry)) set ⌝ }
-{
-    let mut words = Stack {
+    let none = Values {
         positives: 0,
         negatives: 0,
     };
+    let below = (top + 63) % 64;
+    let left = positives[below];
+    let not_left = negatives[below];
+    if t == 0x81 {
+        let both = Values {
+            positives: left & right,
+            negatives: not_left | not_right,
+        };
+        put(positives, negatives, top, none);
+        put(positives, negatives, below, both);
+        return below;
+    }
+    if t == 0x82 {
+        let either = Values {
+            positives: left | right,
+            negatives: not_left & not_right,
+        };
+        put(positives, negatives, top, none);
+        put(positives, negatives, below, either);
+        return below;
+    }
+    let next = (top + 1) % 64;
+    put(positives, negatives, next, literal_of(masks, t, w));
+    next
+}
+
+// Which sets of word w satisfy the rule: bit i for the set 64 w + i.
+pub fn satisfying(rule: &[u8], masks: &[u64; 256], w: u32) -> u64
+    ensures { λ r. ⌜ ((pairs : List ℕ) → Masks pairs (now (masks .entry)) → Tells w r (λ set. satisfies (now (rule .entry)) pairs set)) ⌝ }
+{
+    let mut positives = [0u64; 64];
+    let mut negatives = [0u64; 64];
+    let mut top = 0;
     let mut i = 0;
     while i < rule.len() {
-        words = stepped(words, rule[i], pairs, set);
+        top = stepped(&mut positives, &mut negatives, top, rule[i], masks, w);
         i += 1;
     }
-    last(words).positive
+    positives[top]
+}
+
+// Whether one set satisfies the rule: bit a of the set is there where action a finished.
+pub fn satisfies(rule: &[u8], masks: &[u64; 256], set: u32) -> bool
+    ensures { λ r. ⌜ ((pairs : List ℕ) → Masks pairs (now (masks .entry)) → r ≡ satisfies (now (rule .entry)) pairs set) ⌝ }
+{
+    (satisfying(rule, masks, set / 64) >> (set % 64)) % 2 == 1
 }

@@ -1,21 +1,47 @@
--- `rule::literal_of` meets its contract: each return by whether the action is finished.
-use mathlib.Core.Path.{sym, _∙_}
-use mathlib.Core.Bool.{or-false}
+-- `rule::literal_of` meets its contract: the values from the sets that have the action and those that have an undo of it.
+use mathlib.Core.Path.{subst}
+use Prim.Native.Nat.{ℕ}
+use lib.ListN.{getD}
 use borrow.Author.Needs.{needs}
+use Rattle.meaning.specs.Literal.{finished}
+use Rattle.undos.specs.Masks.{meets}
+use Rattle.rule.specs.Words.{Tells}
+use Rattle.rule.proofs.Words.{literal-told}
+use Rattle.rule.proofs.Gathered.{having-told}
 use Rattle.rule.proofs.literal_of.Statement.{statement}
 use Rattle.rule.proofs.literal_of.Tie as tie
 
-undos-finished-requires : tie.Need-undos-finished-requires
-undos-finished-requires c κs = search needs
+wide-requires : tie.Need-wide-requires
+wide-requires c κs = search needs
 
-is-finished-requires : tie.Need-is-finished-requires
-is-finished-requires c κs = search needs
+having-requires : tie.Need-having-requires
+having-requires c κs = search needs
+
+mul-meeting : tie.Need-mul-meeting
+mul-meeting c = search needs
+
+element-copy-out-meeting : tie.Need-element-copy-out-meeting
+element-copy-out-meeting c = search needs
+
+meeting-requires : tie.Need-meeting-requires
+meeting-requires c κs = search needs
 
 returns : tie.Need-returns
-returns c = simp (c .before .before .undos-finished .ensures, sym (c .before .is-finished .ensures) ∙ c .if1 .taken)
-
-returns-2 : tie.Need-returns-2
-returns-2 c = simp (c .before .before .undos-finished .ensures, sym (c .before .is-finished .ensures) ∙ c .if1 .left, or-false)
+returns c pairs m =
+    let f = c .before .before in
+    let a = f .before .before .args in
+    let same = f .before .wide .ensures in
+    literal-told pairs (a .masks .now) m (a .w) (a .action) (search needs) (search needs) (f .having .result) (c .meeting .result) (search needs) (search needs)
+    (subst (λ (k : ℕ). Tells (a .w) (f .having .result) (λ set. finished set k)) same (having-told (f .having .ensures)))
+    (subst (λ (k : ℕ). Tells (a .w) (c .meeting .result) (λ set. meets set (getD (a .masks .now) k 0))) same (c .meeting .ensures))
 
 pub literal-of-spec : {M : Type 1} → statement M
-literal-of-spec = tie.close (tie.spec undos-finished-requires is-finished-requires returns returns-2)
+literal-of-spec =
+    tie.close
+    (tie.spec
+    wide-requires
+    having-requires
+    mul-meeting
+    element-copy-out-meeting
+    meeting-requires
+    returns)

@@ -1,95 +1,127 @@
--- `rule::stepped` meets its contract: each return by the tests that led there, and by what the calls give for the stack.
-use mathlib.Core.Path.{_∙_, ap, ap₂}
-use borrow.Author.Tests.{eq-eqb, ne-eqb}
-use Rattle.meaning.specs.Meaning.{swapped, both, either}
-use Rattle.meaning.specs.Value.{below}
+-- `rule::stepped` meets its contract: each return by the tests that led there, and by what the stores do to the places.
+use native.Mathlib.Omega.{arith}
 use borrow.Author.Needs.{needs}
+use borrow.Author.Tests.{eq-eqb, ne-eqb}
+use Rattle.rule.proofs.Words.{tells-swapped, tells-both, tells-either}
+use Rattle.rule.proofs.Places.{holds-last, holds-second, holds-replaced, holds-pushed, holds-dropped}
 use Rattle.rule.proofs.stepped.Statement.{statement}
 use Rattle.rule.proofs.stepped.Tie as tie
 
-last-requires : tie.Need-last-requires
-last-requires c κs = search needs
+mul-right : tie.Need-mul-right
+mul-right c = search needs
 
-dropped-requires : tie.Need-dropped-requires
-dropped-requires c κs = search needs
+element-copy-out-right : tie.Need-element-copy-out-right
+element-copy-out-right c = search needs
 
-not-of-requires : tie.Need-not-of-requires
-not-of-requires c κs = search needs
+mul-not-right : tie.Need-mul-not-right
+mul-not-right c = search needs
 
-pushed-requires : tie.Need-pushed-requires
-pushed-requires c κs = search needs
+element-copy-out-not-right : tie.Need-element-copy-out-not-right
+element-copy-out-not-right c = search needs
+
+put-requires : tie.Need-put-requires
+put-requires c κs = search needs
 
 returns : tie.Need-returns
-returns c stack holds =
-    let d = c .before .before .before in
-    let v = c .before .not-of .ensures ∙ ap swapped (d .before .last .ensures stack holds) in
-    rw (eq-eqb _ _ (c .before .before .if1 .taken)) (rw v at (c .pushed .ensures (below stack) (d .dropped .ensures stack holds)))
+returns c =
+    let inside = c .before .before .before .before .before .before .pre in
+    record {
+      inside = inside;
+      steps = λ pairs stacks m h. rw (c .put .ensures .0, c .put .ensures .1, eq-eqb _ _ (c .before .before .before .if1 .taken)) (holds-replaced inside h (tells-swapped (holds-last inside h)));
+    }
 
-last-requires-2 : tie.Need-last-requires-2
-last-requires-2 c κs = search needs
+add-below : tie.Need-add-below
+add-below c = search needs
 
-dropped-requires-2 : tie.Need-dropped-requires-2
-dropped-requires-2 c κs = search needs
+mul-left : tie.Need-mul-left
+mul-left c = search needs
 
-and-of-requires : tie.Need-and-of-requires
-and-of-requires c κs = search needs
+element-copy-out-left : tie.Need-element-copy-out-left
+element-copy-out-left c = search needs
 
-pushed-requires-2 : tie.Need-pushed-requires-2
-pushed-requires-2 c κs = search needs
+mul-not-left : tie.Need-mul-not-left
+mul-not-left c = search needs
+
+element-copy-out-not-left : tie.Need-element-copy-out-not-left
+element-copy-out-not-left c = search needs
+
+put-requires-2 : tie.Need-put-requires-2
+put-requires-2 c κs = search needs
+
+put-requires-3 : tie.Need-put-requires-3
+put-requires-3 c κs = search needs
 
 returns-2 : tie.Need-returns-2
-returns-2 c stack holds =
-    let t = c .before .before in
-    let d = t .before in
-    let u = d .before .before .before in
-    let rest = u .dropped .ensures stack holds in
-    let v = c .before .and-of .ensures ∙ ap₂ both (d .before .last2 .ensures (below stack) rest) (u .before .last .ensures stack holds) in
-    rw (eq-eqb _ _ (t .if2 .taken), ne-eqb _ _ (d .before .before .if1 .left)) (rw v at (c .pushed2 .ensures (below (below stack)) (d .dropped2 .ensures (below stack) rest)))
+returns-2 c =
+    let p = c .before .before .before in
+    let t = p .before .before .before in
+    let e = t .before .before .before in
+    let inside = e .before .before .before .pre in
+    record {
+      inside = omega arith;
+      steps = λ pairs stacks m h. rw (c .put3 .ensures .0, c .put3 .ensures .1, p .put2 .ensures .0, p .put2 .ensures .1, eq-eqb _ _ (t .if2 .taken), ne-eqb _ _ (e .if1 .left))
+          (holds-replaced (omega arith) (holds-dropped inside h) (tells-both (holds-second inside h) (holds-last inside h)));
+    }
 
-or-of-requires : tie.Need-or-of-requires
-or-of-requires c κs = search needs
+put-requires-4 : tie.Need-put-requires-4
+put-requires-4 c κs = search needs
 
-pushed-requires-3 : tie.Need-pushed-requires-3
-pushed-requires-3 c κs = search needs
+put-requires-5 : tie.Need-put-requires-5
+put-requires-5 c κs = search needs
 
 returns-3 : tie.Need-returns-3
-returns-3 c stack holds =
-    let t = c .before .before in
-    let d = t .before .before in
-    let u = d .before .before .before in
-    let rest = u .dropped .ensures stack holds in
-    let v = c .before .or-of .ensures ∙ ap₂ either (d .before .last2 .ensures (below stack) rest) (u .before .last .ensures stack holds) in
-    rw (eq-eqb _ _ (t .if3 .taken), ne-eqb _ _ (t .before .if2 .left), ne-eqb _ _ (d .before .before .if1 .left)) (rw v at (c .pushed3 .ensures (below (below stack)) (d .dropped2 .ensures (below stack) rest)))
+returns-3 c =
+    let p = c .before .before .before in
+    let t = p .before .before .before in
+    let e = t .before .before .before .before in
+    let inside = e .before .before .before .pre in
+    record {
+      inside = omega arith;
+      steps = λ pairs stacks m h. rw (c .put5 .ensures .0, c .put5 .ensures .1, p .put4 .ensures .0, p .put4 .ensures .1, eq-eqb _ _ (t .if3 .taken), ne-eqb _ _ (t .before .if2 .left), ne-eqb _ _ (e .if1 .left))
+          (holds-replaced (omega arith) (holds-dropped inside h) (tells-either (holds-second inside h) (holds-last inside h)));
+    }
+
+add-next : tie.Need-add-next
+add-next c = search needs
 
 literal-of-requires : tie.Need-literal-of-requires
 literal-of-requires c κs = search needs
 
-pushed-requires-4 : tie.Need-pushed-requires-4
-pushed-requires-4 c κs = search needs
+put-requires-6 : tie.Need-put-requires-6
+put-requires-6 c κs = search needs
 
 returns-4 : tie.Need-returns-4
-returns-4 c stack holds =
-    let t = c .before .before in
-    rw (ne-eqb _ _ (t .if3 .left), ne-eqb _ _ (t .before .if2 .left), ne-eqb _ _ (t .before .before .before .before .if1 .left))
-    (rw (c .before .literal-of .ensures) at (c .pushed4 .ensures stack holds))
+returns-4 c =
+    let t = c .before .before .before .before in
+    let e = t .before .before .before .before in
+    record {
+      inside = omega arith;
+      steps = λ pairs stacks m h. rw (c .put6 .ensures .0, c .put6 .ensures .1, ne-eqb _ _ (t .if3 .left), ne-eqb _ _ (t .before .if2 .left), ne-eqb _ _ (e .if1 .left))
+          (holds-pushed (e .before .before .before .pre) h (c .before .literal-of .ensures pairs m));
+    }
 
 pub stepped-spec : {M : Type 1} → statement M
 stepped-spec =
     tie.close
     (tie.spec
-    last-requires
-    dropped-requires
-    not-of-requires
-    pushed-requires
+    mul-right
+    element-copy-out-right
+    mul-not-right
+    element-copy-out-not-right
+    put-requires
     returns
-    last-requires-2
-    dropped-requires-2
-    and-of-requires
-    pushed-requires-2
+    add-below
+    mul-left
+    element-copy-out-left
+    mul-not-left
+    element-copy-out-not-left
+    put-requires-2
+    put-requires-3
     returns-2
-    or-of-requires
-    pushed-requires-3
+    put-requires-4
+    put-requires-5
     returns-3
+    add-next
     literal-of-requires
-    pushed-requires-4
+    put-requires-6
     returns-4)
