@@ -1,14 +1,13 @@
--- The bits of a number: of a union, of a common part and of a complement, of a power of two, and the lowest one; that union is associative, and
--- the common part with a union.
+-- The bits of a number: of a union, of a common part and of a complement, and of a power of two; that union is associative, and that a common part
+-- is taken of each part of a union.
 use mathlib.Core.Path.{_≡_, refl, sym, ap, ap₂, _∙_}
 use mathlib.Core.Logic.{_⊎_, inl, inr}
 use Prim.Native.Nat.{ℕ, zero, suc, _+_, _-_, _*_, _/_, _%_, _^_, _<_, max, min}
 use native.Mathlib.Nat.{mod-lt, one-mul, zero-div, div-eq-of-lt, mul-mod-left, pow-suc, mod-eq-of-lt}
 use native.Mathlib.Omega.{arith}
 use lib.Arith.{bin-ind}
-use lib.Count.{under, trailingZeros}
 use lib.Pow.{pow-lt, pow-add, pow-pos, shl-shr, shr-shr}
-use lib.Bits.{bitOr, bitAnd, or-shr, or-step, or-zero-l, and-shr, and-step, and-self}
+use lib.Bits.{bitOr, bitAnd, or-shr, or-step, and-shr, and-step}
 use Rattle.family.specs.Family.{bitAt}
 use Rattle.family.proofs.Numbers.{below-or-above}
 
@@ -55,7 +54,7 @@ or-assoc =
     ∙ ap₂ (λ (x y : ℕ). x * 2 + y) (rw (or-shr a b 1, or-shr b c 1) (halves (b / 2) (c / 2))) (last-assoc a b c)
     ∙ sym (or-step a (bitOr b c)))
 
--- the common part with a union, bit by bit
+-- the common part with a union is that with each of its parts, bit by bit
 last-and-or : (a b c : ℕ) → min (a % 2) (bitOr b c % 2) ≡ max (bitAnd a b % 2) (bitAnd a c % 2)
 last-and-or a b c = omega (arith, or-last b c, and-last a b, and-last a c)
 
@@ -77,60 +76,6 @@ bit-not (suc k) n zero l h = omega (arith, pow-suc 2 k, pow-pos k)
 bit-not (suc k) n (suc i) l h =
     let half : (2 ^ suc k - 1 - n) / 2 ≡ 2 ^ k - 1 - n / 2 = omega (arith, pow-suc 2 k, pow-pos k) in
     bit-up (2 ^ suc k - 1 - n) i ∙ ap (λ (m : ℕ). bitAt m i) half ∙ bit-not k (n / 2) i (omega (arith, pow-suc 2 k)) (omega arith) ∙ ap (λ (b : ℕ). 1 - b) (sym (bit-up n i))
-
--- i is the lowest bit of n
-pub record Lowest (k n i : ℕ) : Type 0 where
-  pub inside : i < k
-  pub set : bitAt n i ≡ 1
-  pub clear : (j : ℕ) → j < i → bitAt n j ≡ 0
-
--- below the last digit
-lowest-under : (d k n t : ℕ) → n % 2 ≡ d → (d ≡ 0 → Lowest k (n / 2) t) → Lowest (suc k) n (under d t)
-lowest-under zero k n t e rest =
-    let l = rest refl in
-    record { inside = omega (arith, l .inside); set = bit-up n t ∙ l .set; clear = below l }
-  where
-    below : Lowest k (n / 2) t → (j : ℕ) → j < suc t → bitAt n j ≡ 0
-    below l zero h = omega arith
-    below l (suc j) h = bit-up n j ∙ l .clear j (omega arith)
-lowest-under (suc d) k n t e rest = record { inside = omega arith; set = omega arith; clear = λ j h. absurd (omega arith) }
-
-pub lowest : (k n : ℕ) → n < 2 ^ k → ¬ (n ≡ 0) → Lowest k n (trailingZeros k n)
-unfolding trailingZeros
-lowest zero n l some = absurd (some (omega arith))
-lowest (suc k) n l some =
-    lowest-under (n % 2) k n (trailingZeros k (n / 2)) refl (λ e. lowest k (n / 2) (omega (arith, pow-suc 2 k)) (λ z. some (omega arith)))
-
--- the lowest bit, and the others, which `n & (n - 1)` has
-odd-parts : (n : ℕ) → n % 2 ≡ 1 → bitOr 1 (bitAnd n (n - 1)) ≡ n
-odd-parts n odd =
-    let h : (n - 1) / 2 ≡ n / 2 = omega arith in
-    let rest : bitAnd n (n - 1) ≡ n / 2 * 2 = omega (arith, and-step n (n - 1), ap (bitAnd (n / 2)) h ∙ and-self (n / 2)) in
-    rw rest (omega (arith, or-step 1 (n / 2 * 2), ap (bitOr 0) (halved (n / 2)) ∙ or-zero-l (n / 2)))
-  where
-    halved : (m : ℕ) → m * 2 / 2 ≡ m
-    halved m = omega arith
-
-even-parts : (n t : ℕ) → n % 2 ≡ 0 → ¬ (n ≡ 0) → bitOr (2 ^ t) (bitAnd (n / 2) (n / 2 - 1)) ≡ n / 2 → bitOr (2 ^ suc t) (bitAnd n (n - 1)) ≡ n
-even-parts n t even some half =
-    let h : (n - 1) / 2 ≡ n / 2 - 1 = omega arith in
-    let x = bitAnd (n / 2) (n / 2 - 1) in
-    let rest : bitAnd n (n - 1) ≡ x * 2 = omega (arith, and-step n (n - 1), ap (bitAnd (n / 2)) h) in
-    let p : 2 ^ suc t / 2 ≡ 2 ^ t = omega (arith, pow-suc 2 t) in
-    let q : x * 2 / 2 ≡ x = omega arith in
-    rw rest (omega (arith, or-step (2 ^ suc t) (x * 2), ap₂ bitOr p q ∙ half, pow-suc 2 t))
-
-parts-under : (d n t : ℕ) → n % 2 ≡ d → ¬ (n ≡ 0) → (d ≡ 0 → bitOr (2 ^ t) (bitAnd (n / 2) (n / 2 - 1)) ≡ n / 2)
-    → bitOr (2 ^ under d t) (bitAnd n (n - 1)) ≡ n
-parts-under zero n t e some half = even-parts n t e some (half refl)
-parts-under (suc d) n t e some half = odd-parts n (omega arith)
-
-pub lowest-and-rest : (k n : ℕ) → n < 2 ^ k → ¬ (n ≡ 0) → bitOr (2 ^ trailingZeros k n) (bitAnd n (n - 1)) ≡ n
-unfolding trailingZeros
-lowest-and-rest zero n l some = absurd (some (omega arith))
-lowest-and-rest (suc k) n l some =
-    parts-under (n % 2) n (trailingZeros k (n / 2)) refl some
-    (λ e. lowest-and-rest k (n / 2) (omega (arith, pow-suc 2 k)) (λ z. some (omega arith)))
 
 -- a power of two has the one bit
 pub own-bit : (i : ℕ) → bitAt (2 ^ i) i ≡ 1

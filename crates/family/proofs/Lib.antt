@@ -1,4 +1,5 @@
 pub mod Numbers
 pub mod Bits
 pub mod Words
+pub mod Lowest
 pub mod Patterns

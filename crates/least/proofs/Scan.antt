@@ -14,7 +14,8 @@ use borrow.Author.Tests.{eqb-true, eq-eqb}
 use Rattle.blocks.specs.Bounded.{one}
 use Rattle.family.specs.Family.{bitAt, hasAt, In}
 use Rattle.family.proofs.Numbers.{below-or-above}
-use Rattle.family.proofs.Bits.{bit-small, no-bit, Lowest}
+use Rattle.family.proofs.Bits.{bit-small, no-bit}
+use Rattle.family.proofs.Lowest.{Lowest}
 use Rattle.meaning.specs.Value.{satisfies}
 use Rattle.rule.specs.Words.{Tells}
 use Rattle.rule.proofs.Words.{one-bit, tells-and, tells-not}

@@ -7,7 +7,8 @@ use lib.Bits.{bitOr, bitAnd, and-zero-r}
 use lib.Count.{trailingZeros}
 use borrow.Author.Tests.{lt-ltb}
 use Rattle.family.specs.Family.{bitAt, Having}
-use Rattle.family.proofs.Bits.{no-bit, bit-small, lowest, lowest-and-rest}
+use Rattle.family.proofs.Bits.{no-bit, bit-small}
+use Rattle.family.proofs.Lowest.{lowest}
 use Rattle.meaning.specs.Literal.{finished}
 use Rattle.undos.specs.Masks.{meets}
 use Rattle.rule.specs.Words.{Tells}
@@ -51,7 +52,7 @@ module _ {mask w : ℕ} where
 
         parts : (set : ℕ) → set < 2 ^ 64 → meets set rest ≡ finished set low || meets set others
         parts set l =
-            ap (meets set) (sym (lowest-and-rest 64 rest fits some)) ∙ meets-or set (2 ^ low) others ∙ ap (λ (b : Bool). b || meets set others) (own set l)
+            ap (meets set) (sym (lowest 64 rest fits some .others)) ∙ meets-or set (2 ^ low) others ∙ ap (λ (b : Bool). b || meets set others) (own set l)
 
     pub gathered-all : w < 2 ^ 32 → rest ≡ 0 → Tells w sets (λ set. meets set mask)
     gathered-all small z = tells-same (λ i l. sym (g .same (w * 64 + i) (omega arith) ∙ ap (λ (n : ℕ). g .passed (w * 64 + i) || meets (w * 64 + i) n) z ∙ none (w * 64 + i))) (g .told)

@@ -3,7 +3,7 @@ use Prim.Native.Nat.{_-_, _*_, _^_, _≤_, _<_}
 use lib.Count.{trailingZeros, trailing-le}
 use borrow.Author.Needs.{needs}
 use native.Mathlib.Omega.{arith}
-use Rattle.family.proofs.Bits.{lowest}
+use Rattle.family.proofs.Lowest.{lowest}
 use Rattle.family.proofs.Words.{in-range}
 use Rattle.undos.specs.Masks.{Masks}
 use Rattle.least.proofs.Scan.{Passed, passed-none, word-passed, word-found}
