@@ -42,13 +42,19 @@ fn literal_of(masks: &[u64; 256], action: u8, w: u32) -> Values
     }
 }
 
-// Puts a value at a place of the stack.
-fn put(positives: &mut [u64; 64], negatives: &mut [u64; 64], at: usize, v: Values)
+// Puts the two values of a part at a place of the stack.
+fn put(
+    positives: &mut [u64; 64],
+    negatives: &mut [u64; 64],
+    at: usize,
+    positive: u64,
+    negative: u64,
+)
     requires { ⌜ at < 64 ⌝ }
-    ensures { λ r. ⌜ (now (positives .exit) ≡ set (now (positives .entry)) at (v .positives)) × (now (negatives .exit) ≡ set (now (negatives .entry)) at (v .negatives)) ⌝ }
+    ensures { λ r. ⌜ (now (positives .exit) ≡ set (now (positives .entry)) at positive) × (now (negatives .exit) ≡ set (now (negatives .entry)) at negative) ⌝ }
 {
-    positives[at] = v.positives;
-    negatives[at] = v.negatives;
+    positives[at] = positive;
+    negatives[at] = negative;
 }
 
 // What the byte `t` of a rule does to the stack, whose last value is at `top`: not, and, or, or an action. Gives the place of the last value then.
@@ -63,44 +69,35 @@ fn stepped(
     requires { ⌜ top < 64 ⌝ }
     ensures { λ r. ⌜ Stepped (now (masks .entry)) w t (now (positives .entry)) (now (negatives .entry)) top (now (positives .exit)) (now (negatives .exit)) r ⌝ }
 {
-    let right = positives[top];
-    let not_right = negatives[top];
-    if t == 0x80 {
-        let swapped = Values {
-            positives: not_right,
-            negatives: right,
-        };
-        put(positives, negatives, top, swapped);
-        return top;
-    }
-    let none = Values {
-        positives: 0,
-        negatives: 0,
-    };
     let below = (top + 63) % 64;
-    let left = positives[below];
-    let not_left = negatives[below];
-    if t == 0x81 {
-        let both = Values {
-            positives: left & right,
-            negatives: not_left | not_right,
-        };
-        put(positives, negatives, top, none);
-        put(positives, negatives, below, both);
-        return below;
+    match t {
+        0x80 => {
+            let positive = negatives[top];
+            let negative = positives[top];
+            put(positives, negatives, top, positive, negative);
+            top
+        }
+        0x81 => {
+            let positive = positives[below] & positives[top];
+            let negative = negatives[below] | negatives[top];
+            put(positives, negatives, top, 0, 0);
+            put(positives, negatives, below, positive, negative);
+            below
+        }
+        0x82 => {
+            let positive = positives[below] | positives[top];
+            let negative = negatives[below] & negatives[top];
+            put(positives, negatives, top, 0, 0);
+            put(positives, negatives, below, positive, negative);
+            below
+        }
+        _ => {
+            let next = (top + 1) % 64;
+            let v = literal_of(masks, t, w);
+            put(positives, negatives, next, v.positives, v.negatives);
+            next
+        }
     }
-    if t == 0x82 {
-        let either = Values {
-            positives: left | right,
-            negatives: not_left & not_right,
-        };
-        put(positives, negatives, top, none);
-        put(positives, negatives, below, either);
-        return below;
-    }
-    let next = (top + 1) % 64;
-    put(positives, negatives, next, literal_of(masks, t, w));
-    next
 }
 
 // Which sets of word w satisfy the rule: bit i for the set 64 w + i.
