@@ -10,9 +10,8 @@ use Rattle.family.specs.Family.{bitAt, Having}
 use Rattle.family.proofs.Bits.{no-bit, bit-small}
 use Rattle.family.proofs.Lowest.{lowest}
 use Rattle.meaning.specs.Literal.{finished}
-use Rattle.undos.specs.Masks.{meets}
-use Rattle.rule.specs.Words.{Tells}
-use Rattle.undos.proofs.Meets.{meets-or, meets-bit}
+use Rattle.rule.specs.Words.{meets, Tells}
+use Rattle.rule.proofs.Meets.{meets-or, meets-bit}
 use Rattle.rule.proofs.Words.{one-bit, tells-or, tells-same}
 
 -- the sets that have an action

@@ -1,3 +1,4 @@
+pub mod Meets
 pub mod Words
 pub mod Gathered
 pub mod Places

@@ -19,9 +19,9 @@ use Rattle.meaning.specs.declared.Value.{Value}
 use Rattle.meaning.specs.Literal.{finished, undosFinished, literal}
 use Rattle.meaning.specs.Meaning.{swapped, both, either}
 use Rattle.rule.specs.declared.Values.{Values}
-use Rattle.undos.specs.Masks.{Masks, meets}
-use Rattle.rule.specs.Words.{Tells, TellsValues}
-use Rattle.undos.proofs.Meets.{meets-mask}
+use Rattle.undos.specs.Masks.{Masks}
+use Rattle.rule.specs.Words.{meets, Tells, TellsValues}
+use Rattle.rule.proofs.Meets.{meets-mask}
 
 one-and : (a b : Bool) → min (one a) (one b) ≡ one (a && b)
 one-and true true = refl

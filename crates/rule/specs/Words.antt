@@ -1,8 +1,10 @@
 -- 64 sets at a time: bit i of a word speaks of the set 64 w + i.
 use mathlib.Core.Path.{_≡_}
-use mathlib.Core.Bool.{Bool}
+use mathlib.Core.Bool.{Bool, not}
 use mathlib.Core.List.{List}
 use Prim.Native.Nat.{ℕ, _+_, _-_, _*_, _%_, _≤_, _<_}
+use lib.Bits.{bitAnd}
+use lib.Dec.{eqb}
 use lib.ListN.{length, getD}
 use Rattle.blocks.specs.Bounded.{one}
 use Rattle.family.specs.Family.{bitAt}
@@ -10,6 +12,10 @@ use Rattle.meaning.specs.declared.Value.{Value}
 use Rattle.meaning.specs.Value.{places, neither, step}
 use Rattle.rule.specs.declared.Values.{Values}
 use Rattle.undos.specs.Masks.{Masks}
+
+-- The set has an action of the mask.
+abbrev pub meets : ℕ → ℕ → Bool
+meets set mask = not (eqb (bitAnd set mask) 0)
 
 -- The word tells the answer of the test at each of its sets.
 pub record Tells (w r : ℕ) (test : ℕ → Bool) : Type 0 where

@@ -6,8 +6,8 @@ ghost use Prim.Native.Nat.{ℕ, _<_};
 ghost use lib.ListN.{set};
 ghost use Rattle.meaning.specs.Literal.{literal};
 ghost use Rattle.meaning.specs.Value.{satisfies};
-ghost use Rattle.undos.specs.Masks.{Masks, meets};
-ghost use Rattle.rule.specs.Words.{Tells, TellsValues, Stepped};
+ghost use Rattle.undos.specs.Masks.{Masks};
+ghost use Rattle.rule.specs.Words.{meets, Tells, TellsValues, Stepped};
 
 // The two values of a part of the rule at the sets of a word.
 struct Values {

@@ -1,10 +1,10 @@
 -- The undo pairs as masks: for each action the number that has the bit of each of its undos. Only the contracts of this crate and of those that
 -- test sets cite these; what a rule's value is, `satisfies` says.
 use mathlib.Core.Path.{_≡_}
-use mathlib.Core.Bool.{Bool, not, cond}
+use mathlib.Core.Bool.{cond}
 use mathlib.Core.List.{List}
 use Prim.Native.Nat.{ℕ, zero, suc, _^_, _<_}
-use lib.Bits.{bitOr, bitAnd}
+use lib.Bits.{bitOr}
 use lib.Dec.{eqb, ltb}
 use lib.ListN.{getD, set}
 use Rattle.bodies.specs.Pairs.{pairCount, first, second}
@@ -29,7 +29,3 @@ withUndo masks a undo = set masks a (bitOr (getD masks a 0) (bit undo))
 -- The masks are those of the pairs: one for each number that a byte can be.
 pub record Masks (pairs masks : List ℕ) : Type 0 where
   pub undos : (a : ℕ) → a < 256 → getD masks a 0 ≡ undosIn (pairCount pairs) pairs a
-
--- The set has an action of the mask.
-abbrev pub meets : ℕ → ℕ → Bool
-meets set mask = not (eqb (bitAnd set mask) 0)

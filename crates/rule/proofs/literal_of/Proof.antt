@@ -4,8 +4,7 @@ use Prim.Native.Nat.{ℕ}
 use lib.ListN.{getD}
 use borrow.Author.Needs.{needs}
 use Rattle.meaning.specs.Literal.{finished}
-use Rattle.undos.specs.Masks.{meets}
-use Rattle.rule.specs.Words.{Tells}
+use Rattle.rule.specs.Words.{meets, Tells}
 use Rattle.rule.proofs.Words.{literal-told}
 use Rattle.rule.proofs.Gathered.{having-told}
 use Rattle.rule.proofs.literal_of.Statement.{statement}

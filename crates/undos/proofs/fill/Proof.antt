@@ -5,7 +5,7 @@ use lib.ListN.{length, length-set, getD, getD-replicate}
 use native.Mathlib.Omega.{arith}
 use Rattle.bodies.specs.Pairs.{pairCount}
 use Rattle.undos.specs.Masks.{undosIn}
-use Rattle.undos.proofs.Meets.{masks-more}
+use Rattle.undos.proofs.More.{masks-more}
 use Rattle.undos.proofs.fill.Statement.{statement}
 use Rattle.undos.proofs.fill.Tie as tie
 

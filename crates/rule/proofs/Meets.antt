@@ -6,12 +6,10 @@ use mathlib.Core.List.{List}
 use mathlib.Core.Logic.{inl, inr}
 use Prim.Native.Nat.{ℕ, zero, suc, _+_, _/_, _^_, _≤_, _<_}
 use native.Mathlib.Nat.{div-eq-of-lt, zero-add}
-use native.Mathlib.Numerals.{add-one}
 use native.Mathlib.Omega.{arith}
-use lib.Bits.{bitOr, bitAnd, and-zero-r, and-lt, and-le-r, or-zero-l, or-zero-r, or-add-and}
+use lib.Bits.{bitOr, bitAnd, and-zero-r, and-lt, and-le-r, or-zero-l, or-add-and}
 use lib.Dec.{eqb}
-use lib.ListN.{length, getD}
-use lib.Seq.{getD-set-same, getD-set-other}
+use lib.ListN.{getD}
 use lib.Pow.{pow-lt, pow-mono}
 use borrow.Author.Tests.{eq-eqb, ne-eqb, lt-ltb, le-ltb}
 use Rattle.blocks.specs.Bounded.{total, one}
@@ -20,7 +18,8 @@ use Rattle.family.specs.Family.{bitAt}
 use Rattle.family.proofs.Numbers.{same-or-other, below-or-above}
 use Rattle.family.proofs.Bits.{bit-and, bit-small, no-bit, own-bit, only-own-bit, all-clear, and-or}
 use Rattle.meaning.specs.Literal.{finished, undoneBy, undosFinished}
-use Rattle.undos.specs.Masks.{bit, undoBit, undosIn, withUndo, Masks, meets}
+use Rattle.undos.specs.Masks.{bit, undoBit, undosIn, Masks}
+use Rattle.rule.specs.Words.{meets}
 
 -- a union is nothing where both parts are nothing
 or-none : (a b : ℕ) → eqb (bitOr a b) 0 ≡ eqb a 0 && eqb b 0
@@ -88,15 +87,3 @@ module _ (set : ℕ) (small : set < 2 ^ 64) where
   pub meets-mask : (pairs masks : List ℕ) → Masks pairs masks → (a : ℕ) → a < 256
       → meets set (getD masks a 0) ≡ not (eqb (undosFinished pairs set a) 0)
   meets-mask pairs masks m a l = rw (m .undos a l) (meets-undos-in pairs a (pairCount pairs))
-
--- one pair more, in the loop that makes the masks
-pub masks-more : (pairs masks : List ℕ) (i : ℕ) → first pairs i < length masks → ((a : ℕ) → a < 256 → getD masks a 0 ≡ undosIn i pairs a)
-    → (a : ℕ) → a < 256 → getD (withUndo masks (first pairs i) (second pairs i)) a 0 ≡ undosIn (i + 1) pairs a
-unfolding undosIn
-masks-more pairs masks i room old a l =
-    let new = bitOr (getD masks (first pairs i) 0) (bit (second pairs i)) in
-    elim (same-or-other a (first pairs i)) [
-      | inl e ↦ rw (add-one i, e, eq-eqb (first pairs i) (first pairs i) refl, getD-set-same masks (first pairs i) new 0 room)
-          (ap (λ (n : ℕ). bitOr n (bit (second pairs i))) (old (first pairs i) (rw e at l)))
-      | inr d ↦ rw (add-one i, ne-eqb (first pairs i) a (λ e. d (sym e)), or-zero-r (undosIn i pairs a), getD-set-other masks (first pairs i) a new 0 d) (old a l)
-    ]
