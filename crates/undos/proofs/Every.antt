@@ -1,24 +1,23 @@
 -- Every array of 256 words is the masks of some pairs: so a contract that holds "wherever the masks are those of the pairs" fixes the answer for every
 -- array that is lent. The pairs are put together number by number: 64 a + u for the undo u in the mask of the action a.
-use mathlib.Core.Path.{_≡_, refl, sym, ap, ap₂, _∙_}
-use mathlib.Core.Bool.{Bool, true, false, cond}
+use mathlib.Core.Path.{_≡_, refl, sym, ap, _∙_}
+use mathlib.Core.Bool.{cond}
 use mathlib.Core.List.{List, [], _∷_, _++_}
 use mathlib.Core.Logic.{inl, inr}
 use Prim.Native.Nat.{ℕ, zero, suc, _+_, _-_, _*_, _/_, _%_, _^_, _≤_, _<_}
 use native.Mathlib.Nat.{mod-lt, mod-one, mod-eq-of-lt, one-mul}
-use native.Mathlib.Numerals.{add-one}
 use native.Mathlib.Omega.{arith}
 use lib.Bits.{bitOr, or-zero-r, or-shifted-r}
 use lib.Dec.{eqb}
 use lib.ListN.{length, length-append, getD, List·getD-append}
 use lib.Pow.{pow-mono, pow-pos, mod-pow-add}
 use lib.Seq.{getD-append-add}
-use borrow.Author.Tests.{eqb-true, eqb-false, eq-eqb, ne-eqb, lt-ltb}
-use Rattle.bodies.specs.Pairs.{pairCount, first, second}
+use borrow.Author.Tests.{eq-eqb, ne-eqb, lt-ltb}
+use Rattle.bodies.specs.Pairs.{pairCount, first}
 use Rattle.family.specs.Family.{bitAt}
 use Rattle.family.proofs.Numbers.{same-or-other, below-or-above}
 use Rattle.family.proofs.Bits.{bit-small}
-use Rattle.undos.specs.Masks.{bit, undoBit, undosIn, Masks}
+use Rattle.undos.specs.Masks.{bit, undosIn, Masks}
 
 -- pairs that are appended leave the undos of the first ones
 undos-append : (p q : List ℕ) (a n : ℕ) → 2 * n ≤ length p → undosIn n (p ++ q) a ≡ undosIn n p a
