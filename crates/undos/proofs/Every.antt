@@ -13,7 +13,7 @@ use lib.ListN.{length, length-append, getD, List·getD-append}
 use lib.Pow.{pow-mono, pow-pos, mod-pow-add}
 use lib.Seq.{getD-append-add}
 use borrow.Author.Tests.{eq-eqb, ne-eqb, lt-ltb}
-use Rattle.bodies.specs.Pairs.{pairCount, first}
+use Rattle.bodies.specs.Pairs.{pairCount}
 use Rattle.family.specs.Family.{bitAt}
 use Rattle.family.proofs.Numbers.{same-or-other, below-or-above}
 use Rattle.family.proofs.Bits.{bit-small}
