@@ -1,5 +1,6 @@
 /* Times the proved verdict and the C one on each named case, and prints a table (Markdown) of their times and ratio. Compiled with BEFORE it
-   times another build of the proved one too, and prints its times and the ratio to them.
+   times another build of the proved one too, and prints its times and the ratio to them; with ONE_UNDO it leaves out what one from before
+   several undos reads otherwise.
 
    What is timed: one whole verdict, from the file's bytes to the answer: reading and checking the file, the summaries, the least violating
    set, the run that is shown, and clearing the work area. Both get the same file and the same two lent areas, which the call before left as
@@ -137,6 +138,8 @@ int main(void)
             printf("%s is no plan\n", CASES[k].name);
             return 1;
         }
+        if (!is_asked(&f))
+            continue;
         uint32_t answer = answer_of_all(CASES[k].name, &f);
         double time[VERSION_COUNT][ROUNDS], ratio[VERSION_COUNT][ROUNDS];
         unsigned times[VERSION_COUNT];

@@ -34,6 +34,13 @@
     YES_OR_UNDONE(6) "&" YES_OR_UNDONE(7) "&" YES_OR_UNDONE(8) "&" YES_OR_UNDONE(0) "&" YES_OR_UNDONE(1) "&" YES_OR_UNDONE(2) "&" \
     YES_OR_UNDONE(3) "&" YES_OR_UNDONE(4) "&" YES_OR_UNDONE(5) "&" YES_OR_UNDONE(6) "&" YES_OR_UNDONE(7) "&" YES(9) "&" "!!!!"
 
+/* "a or not a, or an undo", which every set satisfies where 7, 8 and 9 are the undos of a; and 11 such, one "9 or not 9", and two "not", 127 bytes. */
+#define YES_OR_ANY_UNDONE(a) #a #a "!|7|8|9|"
+#define YES_ALL_PAIRED_127 \
+    YES_OR_ANY_UNDONE(0) YES_OR_ANY_UNDONE(1) "&" YES_OR_ANY_UNDONE(2) "&" YES_OR_ANY_UNDONE(3) "&" YES_OR_ANY_UNDONE(4) "&" \
+    YES_OR_ANY_UNDONE(5) "&" YES_OR_ANY_UNDONE(6) "&" YES_OR_ANY_UNDONE(0) "&" YES_OR_ANY_UNDONE(1) "&" YES_OR_ANY_UNDONE(2) "&" \
+    YES_OR_ANY_UNDONE(3) "&" YES(9) "&" "!!"
+
 /* Ten actions side by side, each of which may do either and has "skip" as its handler: 39 nodes, each of the 1,024 sets under code 1. */
 #define EITHER_TEN "0s> 1s>| 2s>| 3s>| 4s>| 5s>| 6s>| 7s>| 8s>| 9s>|"
 
@@ -74,6 +81,7 @@ const struct named_case CASES[] = {
     {"all sets", "3333333333", "", EITHER_TEN, YES(0)},
     {"all sets, long rule", "3333333333", "", EITHER_TEN, YES_127},
     {"all sets, nine pairs", "3333333333", "091929394959697989", EITHER_TEN, YES_PAIRED_127},
+    {"all sets, 21 pairs", "3333333333", "070809" "171819" "272829" "373839" "474849" "575859" "676869", EITHER_TEN, YES_ALL_PAIRED_127},
 
     /* Full families. The late rule is "not all ten", which the last set alone breaks. */
     {"full families", "3333333333", "", FULL, YES(0)},

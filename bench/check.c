@@ -21,7 +21,7 @@ static int all_zero(const uint8_t *b, size_t n)
     return n == 0;
 }
 
-/* The two values of a part of the rule, by the words of document 01. */
+/* The two values of a part of the rule, by the words of documents 01 and 02. */
 struct value {
     int positive, negative;
 };
@@ -29,12 +29,10 @@ struct value {
 static struct value literal(const struct layout *p, unsigned set, unsigned action)
 {
     int a = set >> action & 1;
+    unsigned undone = 0;
     for (unsigned i = 0; i < p->pair_count; i++)
-        if (p->pairs[2 * i] == action) {
-            int u = set >> p->pairs[2 * i + 1] & 1;
-            return (struct value){a && !u, (!a && !u) || (a && u)};
-        }
-    return (struct value){a, !a};
+        undone += p->pairs[2 * i] == action && set >> p->pairs[2 * i + 1] & 1;
+    return (struct value){a && undone == 0, (!a && undone == 0) || (a && undone == 1)};
 }
 
 /* The rule as a tree, read from its end: `at` goes down past the part. */

@@ -59,18 +59,34 @@ unsigned below(uint64_t *state, unsigned n)
     return (unsigned)((next_random(state) >> 32) * n >> 32);
 }
 
-/* Some actions are first, each with any of the others as its undo. */
-static void random_pairs(uint64_t *state, struct plan *p)
+/* The numbers below n, in any order. */
+static void shuffled(uint64_t *state, unsigned n, unsigned *out)
 {
-    unsigned order[MOST_ACTIONS] = {0}, n = p->actions;
     for (unsigned i = 0; i < n; i++) {
         unsigned j = below(state, i + 1);
-        order[i] = order[j];
-        order[j] = i;
+        out[i] = out[j];
+        out[j] = i;
     }
-    unsigned firsts = below(state, 2) ? below(state, n) : below(state, n / 2 + 1);
+}
+
+/* Some actions are first, each with up to so many of the others as its undos; now and then with as many as can be, 21 in all. */
+static void random_pairs(uint64_t *state, struct plan *p)
+{
+    unsigned order[MOST_ACTIONS] = {0}, crossed[MOST_ACTIONS * MOST_ACTIONS / 4] = {0}, wanted[MOST_ACTIONS];
+    unsigned n = p->actions, many = n > PLAN_UNDOS && below(state, 6) == 0;
+    unsigned firsts = many ? n - PLAN_UNDOS : below(state, 2) ? below(state, n) : below(state, n / 2 + 1), seconds = n - firsts;
     for (unsigned i = 0; i < firsts; i++)
-        add_pair(p, order[i], order[firsts + below(state, n - firsts)]);
+        wanted[i] = many ? PLAN_UNDOS : below(state, PLAN_UNDOS + 1);
+    shuffled(state, n, order);
+    /* each first beside each second */
+    shuffled(state, firsts * seconds, crossed);
+    for (unsigned k = 0; k < firsts * seconds; k++) {
+        unsigned i = crossed[k] / seconds;
+        if (wanted[i]) {
+            wanted[i]--;
+            add_pair(p, order[i], order[firsts + crossed[k] % seconds]);
+        }
+    }
 }
 
 static unsigned random_leaf(uint64_t *state, struct plan *p)
@@ -153,6 +169,24 @@ static size_t heading_of(const struct plan_file *f, unsigned k)
         at = next;
     }
     return at;
+}
+
+/* As many pairs as there could be where an action had one undo at most. */
+enum { FEW_PAIRS = 9 };
+
+int is_asked(const struct plan_file *f)
+{
+    if (PLAN_UNDOS > 1)
+        return 1;
+    const uint8_t *heading = f->bytes + heading_of(f, 1), *pairs = heading + 4, *end = f->bytes + f->len;
+    unsigned len = heading[0] | heading[1] << 8;
+    if (len > 2 * FEW_PAIRS)
+        return len > 2 * MOST_PAIRS;
+    for (unsigned i = 0; i < len && pairs + i + 1 < end; i += 2)
+        for (unsigned j = 0; j < i; j += 2)
+            if (pairs[j] == pairs[i] && pairs[j + 1] != pairs[i + 1])
+                return 0;
+    return 1;
 }
 
 /* A byte of the body of block k; a byte anywhere where it has none. */

@@ -9,16 +9,22 @@ static unsigned types_fault(const struct layout *p)
     return 0;
 }
 
-/* Each pair beside every pair: no action is first in two pairs, or first in one and second in any. */
+/* Each pair beside every pair: no pair is there twice, and no action is first in more than three pairs, or first in one and second in any. */
 static unsigned pairs_fault(const struct layout *p)
 {
     for (unsigned i = 0; i < p->pair_count; i++) {
         unsigned action = p->pairs[2 * i], undo = p->pairs[2 * i + 1];
         if (action >= p->actions || undo >= p->actions)
             return 5;
-        for (unsigned j = 0; j < p->pair_count; j++)
-            if (action == p->pairs[2 * j + 1] || (i != j && action == p->pairs[2 * j]))
+        unsigned undos = 0;
+        for (unsigned j = 0; j < p->pair_count; j++) {
+            unsigned first = p->pairs[2 * j], second = p->pairs[2 * j + 1];
+            if (action == second || (i != j && action == first && undo == second))
                 return 5;
+            undos += action == first;
+        }
+        if (undos > MOST_UNDOS)
+            return 5;
     }
     return 0;
 }

@@ -14,13 +14,20 @@ static void fill_masks(const struct layout *p, uint64_t masks[MOST_ACTIONS])
         masks[p->pairs[2 * i]] |= 1ull << p->pairs[2 * i + 1];
 }
 
-/* The sets of word w that have an action of the mask. */
-static uint64_t meeting(uint64_t mask, unsigned w)
+/* Sets of a word: those that have some action of a mask, and those that have more than one. */
+struct meeting {
+    uint64_t some, more;
+};
+
+static struct meeting meeting(uint64_t mask, unsigned w)
 {
-    uint64_t sets = 0;
-    for (; mask; mask &= mask - 1)
-        sets |= family_having(__builtin_ctzll(mask), w);
-    return sets;
+    struct meeting met = {0, 0};
+    for (; mask; mask &= mask - 1) {
+        uint64_t having = family_having(__builtin_ctzll(mask), w);
+        met.more |= met.some & having;
+        met.some |= having;
+    }
+    return met;
 }
 
 /* The normalised rule at the sets 64 w + i, bit i for each. Two stacks of words in a round of 64 places: no more values stand in a rule of 127 bytes. */
@@ -39,10 +46,11 @@ static uint64_t satisfying(const uint8_t *rule, unsigned len, const uint64_t *ma
             neg[below] = t == AND ? neg[below] | n : neg[below] & n;
             top = below;
         } else {
-            uint64_t finished = family_having(t, w), undone = meeting(masks[t], w);
+            uint64_t finished = family_having(t, w);
+            struct meeting undone = meeting(masks[t], w);
             top = (top + 1) % 64;
-            pos[top] = finished & ~undone;
-            neg[top] = (finished & undone) | ~(finished | undone);
+            pos[top] = finished & ~undone.some;
+            neg[top] = (finished & undone.some & ~undone.more) | ~(finished | undone.some);
         }
     }
     return pos[top];

@@ -1,8 +1,9 @@
 #!/usr/bin/env python3
-"""Runs the built program target/bin/inspect on random and damaged files and compares it with the model: tests/fuzz_inspect.py MODEL COUNT SEED
+"""Runs the built program target/bin/inspect on random and damaged files and compares it with the model: tests/fuzz_inspect.py MODEL COUNT SEED [one]
 
 MODEL is the folder of the model (plans.py says which). The program must have been built, by `rt check inspect`. One process is run for each
-file, two at a time. The script ends with status 1 at the first file on which the two differ, and prints it.
+file, two at a time. The script ends with status 1 at the first file on which the two differ, and prints it. With `one` the files are those that read
+the same where an action has one undo at most and there are nine pairs at most.
 """
 import os
 import random
@@ -10,15 +11,15 @@ import subprocess
 import sys
 from concurrent.futures import ThreadPoolExecutor
 
-from plans import damaged, model_in, number_of, random_blocks, random_plan
+from plans import asked, damaged, made, number_of, random_blocks, random_plan
 
 
-def random_file(model, rng):
+def random_file(model, rng, undos):
     """bytes, a plan, or a plan with a body made at random; the latter two as they are, or damaged up to three times"""
     what = rng.randrange(20)
     if what == 0:
         return bytes(rng.choice([0, 1, 2, 3, 4, rng.randrange(256)]) for _ in range(rng.randrange(0, 80)))
-    file = random_blocks(model, rng) if what < 10 else random_plan(model, rng)
+    file = random_blocks(model, rng, undos) if what < 10 else random_plan(model, rng, undos=undos)
     for _ in range(rng.choice([0, 0, 0, 1] if what < 10 else [0, 1, 1, 2, 3])):
         file = damaged(rng, file)
     # some as long as a pipe does not give in one piece, and past what the program reads
@@ -34,16 +35,14 @@ def said(program, file):
 
 
 def main():
-    if len(sys.argv) != 4:
-        sys.exit(__doc__)
-    model, count, seed = model_in(sys.argv[1]), int(sys.argv[2]), int(sys.argv[3])
+    model, count, seed, undos = asked(__doc__)
     root = os.path.dirname(os.path.dirname(os.path.abspath(__file__)))
     program = os.path.join(root, 'target', 'bin', 'inspect')
     rng = random.Random(seed)
     met = [0] * 10
     with ThreadPoolExecutor(2) as pool:
         for start in range(0, count, 1000):
-            files = [random_file(model, rng) for _ in range(min(1000, count - start))]
+            files = [made(model, undos, lambda: random_file(model, rng, undos)) for _ in range(min(1000, count - start))]
             for file, line in zip(files, pool.map(lambda f: said(program, f), files)):
                 number = number_of(model, file)
                 expected = f'refused {number}\n' if number else 'accepted\n'

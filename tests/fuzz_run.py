@@ -1,10 +1,11 @@
 #!/usr/bin/env python3
-"""Runs the built program target/bin/run on random plans and sessions and compares it with the model: tests/fuzz_run.py MODEL COUNT SEED
+"""Runs the built program target/bin/run on random plans and sessions and compares it with the model: tests/fuzz_run.py MODEL COUNT SEED [one]
 
-MODEL is the folder of the model (sessions.py says which). The program must have been built, by `rt check run`. One process is run for each session.
+MODEL is the folder of the model (plans.py says which). The program must have been built, by `rt check run`. One process is run for each session.
 Every other session goes line by line, each line sent once the answer to the one before it is there; the others come in pieces that end anywhere.
 About half of all sessions are brought to an end after their lines, in at most as many entries as the plan has leaves that the record does not name.
 The script ends with status 1 at the first session in which the two differ, or in which the model comes to no end, and prints it.
+With `one` the plans are those that read the same where an action has one undo at most and there are nine pairs at most.
 """
 import os
 import random
@@ -14,8 +15,8 @@ import sys
 import tempfile
 import time
 
-from plans import damaged, number_of, random_plan
-from sessions import Model, cells_in, leaves_of, permitted, random_entry, said_to, told_lines
+from plans import asked, damaged, made, number_of, random_plan
+from sessions import Model, leaves_of, permitted, random_entry, said_to, told_lines
 
 # seconds that the program may take for an answer
 PATIENCE = 20
@@ -74,11 +75,15 @@ class Program:
         return rest.decode('ascii', 'replace'), errors, self.process.wait()
 
 
-def session(path, cells, rng, plan):
+def random_file(cells, rng, undos):
+    """a plan, one of twenty damaged"""
+    file = random_plan(cells, rng, rng.choice([1, 2, 3, 4, 5, 6, 8, 13, 21, 32, 32]), undos)
+    return damaged(rng, file) if rng.randrange(20) == 0 else file
+
+
+def session(path, cells, rng, plan, undos):
     """one session; the lines of input and the answers expected, where they differ from what is found"""
-    file = random_plan(cells, rng, rng.choice([1, 2, 3, 4, 5, 6, 8, 13, 21, 32, 32]))
-    if rng.randrange(20) == 0:
-        file = damaged(rng, file)
+    file = made(cells, undos, lambda: random_file(cells, rng, undos))
     with open(plan, 'wb') as out:
         out.write(file)
     number = number_of(cells, file)
@@ -115,15 +120,13 @@ def session(path, cells, rng, plan):
 
 
 def main():
-    if len(sys.argv) != 4:
-        sys.exit(__doc__)
-    cells, count, seed = cells_in(sys.argv[1]), int(sys.argv[2]), int(sys.argv[3])
+    cells, count, seed, undos = asked(__doc__)
     root = os.path.dirname(os.path.dirname(os.path.abspath(__file__)))
     path = os.path.join(root, 'target', 'bin', 'run')
     rng, lines = random.Random(seed), 0
     with tempfile.TemporaryDirectory() as folder:
         for _ in range(count):
-            more, fault = session(path, cells, rng, os.path.join(folder, 'plan'))
+            more, fault = session(path, cells, rng, os.path.join(folder, 'plan'), undos)
             if fault:
                 sys.exit(fault)
             lines += more

@@ -1,10 +1,11 @@
 #!/usr/bin/env python3
-"""Runs the built programs target/bin/verdict and run on random plans and compares them with the model: tests/fuzz_verdict.py MODEL COUNT SEED
+"""Runs the built programs target/bin/verdict and run on random plans and compares them with the model: tests/fuzz_verdict.py MODEL COUNT SEED [one]
 
-MODEL is the folder of the model (sessions.py says which). The programs must have been built, by `rt check verdict run`. The verdict and its set are the
+MODEL is the folder of the model (plans.py says which). The programs must have been built, by `rt check verdict run`. The verdict and its set are the
 model's. A run that is shown must be taken entry by entry by the model's runner, and end there; it must leave the set; of a small plan it is
 held against all runs as well. Then it is offered line by line to the program `run`, which must take every entry and say that the run may end.
-The script ends with status 1 at the first plan in which something differs, and prints it.
+The script ends with status 1 at the first plan in which something differs, and prints it. With `one` the plans are those that read the same where an
+action has one undo at most and there are nine pairs at most.
 """
 import collections
 import os
@@ -14,14 +15,14 @@ import sys
 import tempfile
 from concurrent.futures import ThreadPoolExecutor
 
-from plans import damaged, random_plan
-from sessions import FEW_LEAVES, Model, cells_in, leaves_of
+from plans import asked, damaged, made, random_plan
+from sessions import FEW_LEAVES, Model, leaves_of
 from verdicts import not_just, with_rule
 
 
-def random_file(cells, rng):
+def random_file(cells, rng, undos):
     """a plan as it is, or with a rule that one of its own sets breaks and no other, so that long runs are shown; some damaged"""
-    file = random_plan(cells, rng)
+    file = random_plan(cells, rng, undos=undos)
     what = rng.randrange(8)
     if what == 0:
         return damaged(rng, file)
@@ -78,16 +79,14 @@ def fault_of(cells, programs, file, text):
 
 
 def main():
-    if len(sys.argv) != 4:
-        sys.exit(__doc__)
-    cells, count, seed = cells_in(sys.argv[1]), int(sys.argv[2]), int(sys.argv[3])
+    cells, count, seed, undos = asked(__doc__)
     root = os.path.dirname(os.path.dirname(os.path.abspath(__file__)))
     programs = {name: os.path.join(root, 'target', 'bin', name) for name in ('verdict', 'run')}
     rng = random.Random(seed)
     met, entries = collections.Counter(), 0
     with ThreadPoolExecutor(2) as pool:
         for start in range(0, count, 200):
-            files = [random_file(cells, rng) for _ in range(min(200, count - start))]
+            files = [made(cells, undos, lambda: random_file(cells, rng, undos)) for _ in range(min(200, count - start))]
             for file, text in zip(files, pool.map(lambda f: said([programs['verdict']], f), files)):
                 fault = fault_of(cells, programs, file, text)
                 if fault:

@@ -1,7 +1,7 @@
 #!/usr/bin/env python3
 """Writes the vectors of the program `compare` anew: tests/make_vectors.py MODEL
 
-MODEL is the folder of the model (plans.py and sessions.py say which). Written: crates/compare/data/files, runs and verdicts, what each program reads
+MODEL is the folder of the model (plans.py says which). Written: crates/compare/data/files, runs and verdicts, what each program reads
 and is to write (stdin, stdout, args and data in its crate), the plans of the course, crates/course/data, and the stored cases but those that stand
 for the front door alone, tests/stored and tests/files.
 docs/VECTORS.md has the format. The numbers expected are the model's. Where document 01 names one, the script ends if the model has another.
@@ -12,9 +12,9 @@ import os
 import random
 import sys
 
-from office import MENDED, SWALLOWED
-from plans import block, blocks_of, damaged, model_in, number_of, random_plan
-from sessions import Model, cells_in, permitted, random_entries, session_of
+from office import MENDED, SWALLOWED, WITHDRAWN
+from plans import SKIP, THROW, TWENTY_ONE, block, blocks_of, damaged, flat, model_in, named, number_of, random_plan, whole
+from sessions import Model, permitted, random_entries, session_of
 from stored import chart_lines, inspect_lines, stored_cases, verdict_lines
 from verdicts import verdict_vectors
 
@@ -24,21 +24,13 @@ SEED_FEW, FEW = 20073, 220
 SEED_MANY, MANY = 20074, 120
 SEED_MADE_UP, MADE_UP = 20075, 30
 # what the program has room for: the bytes of a name, and of a data file
-NAME_ROOM, DATA_ROOM = 64, 655360
+NAME_ROOM, DATA_ROOM = 64, 1048576
+# the bytes of the largest file, which a job has room for
+MOST_FILE = 384
 
-SKIP, THROW = (1, 0, 0), (2, 0, 0)
 SEQUENCE, PARALLEL, CHOICE, COMPENSATION, HANDLER = 3, 4, 5, 6, 7
 P1 = bytes.fromhex('03 00 01 00 03 01 03 02 00 02 00 00 01 0F 00 03 00 00 00 00 00 01 00 06 00 01 00 02 00 03 02 03'
                    '09 00 04 00 00 02 81 00 80 02 80 81 82')
-
-
-def flat(rows):
-    return bytes(b for row in rows for b in row)
-
-
-def whole(types=(1,), pairs=(), nodes=(SKIP,), rule=(0,)):
-    """the file of four bodies"""
-    return block(1, types) + block(2, flat(pairs)) + block(3, flat(nodes)) + block(4, rule)
 
 
 def comb(leaves):
@@ -56,8 +48,15 @@ def over(form, left, right):
 
 
 TEN = [1, 2, 3, 1, 2, 3, 1, 2, 3, 1]
-NINE_PAIRS = [(a, 9) for a in range(9)]
-LARGEST = whole(TEN, NINE_PAIRS, comb(32), [0] + [0x80] * 126)
+
+
+def large(size):
+    """a plan of so many bytes: the largest one without some of its pairs and, where the number is odd, without one byte of its rule"""
+    less = MOST_FILE - size
+    return whole(TEN, TWENTY_ONE[:21 - less // 2], comb(32), [0] + [0x80] * (126 - less % 2))
+
+
+LARGEST = large(MOST_FILE)
 
 
 def plans_of_document():
@@ -103,11 +102,12 @@ def edges_of_lengths():
     """both sides of each limit, and bodies that are no multiple of what they list"""
     for n in (0, 1, 2, 9, 10, 11, 12, 255, 256):
         yield f'{n} actions', whole([1 + i % 3 for i in range(n)])
-    for n in (0, 1, 8, 9, 10, 11):
-        yield f'{n} pairs', whole(TEN, [(a % 9, 9) for a in range(n)])
+    for n in (0, 1, 2, 9, 10, 20, 21, 22, 23):
+        yield f'{n} pairs', whole(TEN, (TWENTY_ONE * 2)[:n])
+    yield '9 pairs with one second', whole(TEN, [(a, 9) for a in range(9)])
     yield '9 pairs of 9 actions', whole([1] * 9, [(a, 8) for a in range(9)])
-    for n in (1, 3, 17, 19):
-        yield f'{n} bytes of pairs', block(1, TEN) + block(2, flat(NINE_PAIRS + [(0, 9)])[:n]) + block(3, flat([SKIP])) + block(4, [0])
+    for n in (1, 3, 17, 19, 41, 43, 45):
+        yield f'{n} bytes of pairs', block(1, TEN) + block(2, flat(TWENTY_ONE * 2)[:n]) + block(3, flat([SKIP])) + block(4, [0])
     for n in (0, 1, 3, 5, 61, 63, 65, 67):
         yield f'{n} nodes', whole(nodes=comb((n + 1) // 2) if n else [])
     for n in (62, 64, 66):
@@ -119,6 +119,8 @@ def edges_of_lengths():
         yield f'{n} bytes of rule', whole(rule=([0] + [0x80] * (n - 1))[:n])
     for n in (126, 127, 128, 129):
         yield f'{n} bytes of rule, of which half are and', whole(rule=[0] * ((n + 1) // 2) + [0x81] * (n // 2))
+    for n in (359, 360, 361, 362, 382, 383):
+        yield f'a plan of {n} bytes', large(n)
     yield 'the largest file', LARGEST
 
 
@@ -200,22 +202,33 @@ def edges_of_contents():
 
 
 def edges_of_pairs():
-    """every pair and every two pairs of three actions; nine pairs with each two of them at odds"""
+    """every pair of three actions, and every two and every three pairs of three and of four"""
     for a in range(4):
         for u in range(4):
             yield f'pair {a} {u}', whole([1] * 3, [(a, u)])
-    some = [(a, u) for a in range(3) for u in range(3)]
-    for first in some:
-        for second in some:
-            yield f'pairs {first[0]} {first[1]} and {second[0]} {second[1]}', whole([1] * 3, [first, second])
-    for i in range(9):
-        for j in range(9):
-            pairs = list(NINE_PAIRS)
-            pairs[i] = (i, j)
-            yield f'nine pairs, second of {i} is first of {j}', whole(TEN, pairs)
-            if i != j:
-                pairs[i] = (j, 9)
-                yield f'nine pairs, first of {i} is first of {j}', whole(TEN, pairs)
+    for count, most in itertools.product((2, 3), (3, 4)):
+        for pairs in itertools.product(itertools.product(range(most), repeat=2), repeat=count):
+            yield f'pairs {named(pairs)} of {most}', whole([1] * most, pairs)
+
+
+def edges_of_undos():
+    """three and four pairs with one first in all places among seven, and a fourth in each place among nineteen"""
+    for count in (3, 4):
+        for places in itertools.combinations(range(7), count):
+            firsts, undos = iter((1, 2, 3, 4)), iter((6, 7, 8, 9))
+            pairs = [(0, next(undos)) if i in places else (next(firsts), 9) for i in range(7)]
+            yield f'{count} pairs of 7 with one first: {named(pairs)}', whole(TEN, pairs)
+    eighteen = [(a, u) for a in range(6) for u in (6, 7, 8)]
+    for i in range(19):
+        yield f'19 pairs, {i} is a fourth with first {i % 6}', whole(TEN, eighteen[:i] + [(i % 6, 9)] + eighteen[i:])
+
+
+def pairs_replaced():
+    """as many pairs as there can be, each of them replaced: by each other one, and by those that differ in one number"""
+    for i, (a, u) in enumerate(TWENTY_ONE):
+        before, after = TWENTY_ONE[:i], TWENTY_ONE[i + 1:]
+        for pair in before + after + [(a, n) for n in (*range(7), 10, 255)] + [(n, u) for n in (7, 8, 9, 10, 255)]:
+            yield f'21 pairs, {i} is {pair[0]} {pair[1]}', whole(TEN, before + [pair] + after)
 
 
 def edges_of_nesting():
@@ -391,7 +404,7 @@ def made_up(rng, cells, n):
 
     def job(kind, file=file, entries=flat_record, length=len(file), taken=len(record), at_file=None, at_record=None):
         """the job's bytes, and one step: the entry"""
-        room, rest = bytearray(bytes(file).ljust(360, b'\0')), bytearray(bytes(entries).ljust(126, b'\0'))
+        room, rest = bytearray(bytes(file).ljust(MOST_FILE, b'\0')), bytearray(bytes(entries).ljust(126, b'\0'))
         if at_file is not None:
             room[at_file] = rng.randrange(1, 256)
         if at_record is not None:
@@ -403,12 +416,12 @@ def made_up(rng, cells, n):
         return f'job {n} of seed {SEED_MADE_UP}, {kind}', body + step_of(entry, told) + step_of((entry[0], 0), None)
 
     yield job('as it is')
-    for length in (0, len(file) - 1, 361, 2 ** 32 + len(file), 2 ** 64 - 1):
+    for length in (0, len(file) - 1, MOST_FILE + 1, 2 ** 32 + len(file), 2 ** 64 - 1):
         yield job(f'plan length {length}', length=length)
-    if len(file) < 360:
+    if len(file) < MOST_FILE:
         yield job('plan length one more', length=len(file) + 1)
         yield job('a byte past the plan', at_file=len(file))
-        yield job('the last byte past the plan', at_file=359)
+        yield job('the last byte past the plan', at_file=MOST_FILE - 1)
     for taken in (len(record) - 1, len(record) + 1, 63, 64, 2 ** 63 + len(record), 2 ** 64 - 1):
         yield job(f'{taken} entries', taken=taken)
     yield job('a byte past the record', at_record=len(flat_record))
@@ -424,7 +437,7 @@ def made_up(rng, cells, n):
 
 def told_by_job(cells, file, length, record, taken, entry):
     """what is told to an entry by a value of the type Job, or None where it is refused: a job is real where a start and entries give it"""
-    if length > 360 or taken > 63 or any(file[length:]) or any(record[2 * taken:]) or number_of(cells, file[:length]):
+    if length > MOST_FILE or taken > 63 or any(file[length:]) or any(record[2 * taken:]) or number_of(cells, file[:length]):
         return None
     model = Model(cells, file[:length])
     for k in range(taken):
@@ -494,12 +507,12 @@ def write_differences(write, runs):
 def main():
     if len(sys.argv) != 2:
         sys.exit(__doc__)
-    model = model_in(sys.argv[1])
+    cells = model_in(sys.argv[1])
     root = os.path.dirname(os.path.dirname(os.path.abspath(__file__)))
     vectors = []
 
     def add(name, file, number=None):
-        found = number_of(model, file)
+        found = number_of(cells, file)
         if number is not None and found != number:
             sys.exit(f'{name}: the model says {found}, document 01 {number}')
         vectors.append((name, found, bytes(file)))
@@ -508,17 +521,17 @@ def main():
         add(name, file, 0)
     for name, number, file in examples_of_table():
         add(f'example of {name}', file, number)
-    for part in (edges_of_lengths, edges_of_headings, edges_of_contents, edges_of_pairs, edges_of_nesting, cuts):
+    for part in (edges_of_lengths, edges_of_headings, edges_of_contents, edges_of_pairs, edges_of_undos, pairs_replaced, edges_of_nesting, cuts):
         for name, file in part():
             add(name, file)
     for name, number, file in two_faults():
         add(name, file, number)
     rng = random.Random(SEED_PLANS)
     for n in range(PLANS):
-        add(f'plan {n} of seed {SEED_PLANS}', random_plan(model, rng), 0)
+        add(f'plan {n} of seed {SEED_PLANS}', random_plan(cells, rng), 0)
     rng = random.Random(SEED_DAMAGED)
     for n in range(DAMAGED):
-        file = random_plan(model, rng)
+        file = random_plan(cells, rng)
         for _ in range(rng.choice([1, 1, 1, 2, 3])):
             file = damaged(rng, file)
         add(f'damaged plan {n} of seed {SEED_DAMAGED}', file)
@@ -530,17 +543,19 @@ def main():
             file.write(data)
 
     files = data_of([(name, bytes([number]) + file) for name, number, file in vectors])
-    cells = cells_in(sys.argv[1])
     runs = list(runs_vectors(cells))
     write('crates/compare/data/files', files)
     write('crates/compare/data/runs', data_of(runs))
     judged = list(plans_of_document()) + [('swallowed', SWALLOWED), ('mended', MENDED)]
-    verdicts = list(verdict_vectors(model, judged, edges_of_lengths()))
+    withdrawn = ('withdrawn', WITHDRAWN)
+    verdicts = list(verdict_vectors(cells, judged + [withdrawn], edges_of_lengths()))
     write('crates/compare/data/verdicts', data_of(verdicts))
     counts = ''.join(f'{group}: {n} vectors, {n} agree\n' for group, n in (('files', len(vectors)), ('runs', len(runs)), ('verdicts', len(verdicts))))
     write('crates/compare/stdout', counts.encode())
     write_differences(write, runs)
-    write_programs(cells, write, {name.lower(): file for name, file in judged} | {'broken': whole([3], (), NESTED)})
+    # last, so that the lines of the others keep their numbers, which docs/GUIDE.md has
+    course = judged + [('broken', whole([3], (), NESTED)), withdrawn]
+    write_programs(cells, write, {name.lower(): file for name, file in course})
     counts = {number: sum(n == number for _, n, _ in vectors) for number in range(10)}
     print(f'files: {len(vectors)} vectors, {len(files)} bytes; of each number:', ', '.join(f'{k}: {v}' for k, v in counts.items()))
     steps = [body[at:at + 12] for _, body in runs if body[0] == 0 for at in range(13 + int.from_bytes(body[1:3], 'little'), len(body), 12)]

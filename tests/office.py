@@ -1,23 +1,31 @@
-"""The office's own story, as two plans: a sweep is measured, stored, a reverberation time computed from it, and the figure filed.
+"""The office's own story, as three plans: a sweep is measured, stored, a reverberation time computed from it, and the figure filed.
 
-What make_vectors.py writes beside P1 to P8. Actions: 0 sweep, 1 store, 2 reverberation time, 3 file. The rule of both is that a figure is filed only
-where the sweep was stored: "not 3, or 1".
+What make_vectors.py writes beside P1 to P8. Actions: 0 sweep, 1 store, 2 reverberation time, 3 file; and in the third plan 4 withdraw by the server,
+5 withdraw by hand.
 """
-from plans import block
+from plans import SKIP, whole
 
-SWEEP, STORE, TIME, FILE = 0, 1, 2, 3
-TYPES = [3, 3, 1, 1]
-RULE = [FILE, 0x80, STORE, 0x82]
+SWEEP, STORE, TIME, FILE, SERVER, HAND = range(6)
+
+
+def action(a):
+    return (0, a, 0)
 
 
 def story(instead):
-    """sweep; store, and `instead` where that fails; reverberation time; file"""
-    action = lambda a: (0, a, 0)
+    """sweep; store, and `instead` where that fails; reverberation time; file. The rule, "not 3, or 1": a figure is filed only where the sweep was stored"""
     nodes = [action(SWEEP), action(STORE), instead, (7, 1, 2), (3, 0, 3), action(TIME), (3, 4, 5), action(FILE), (3, 6, 7)]
-    return block(1, TYPES) + block(2, b'') + block(3, [b for node in nodes for b in node]) + block(4, RULE)
+    return whole([3, 3, 1, 1], (), nodes, [FILE, 0x80, STORE, 0x82])
 
 
 # the handler skips: a failed store is swallowed, and the figure is filed with nothing behind it
-SWALLOWED = story((1, 0, 0))
+SWALLOWED = story(SKIP)
 # the handler stores again: where that fails too, the plan fails, and no figure is filed
-MENDED = story((0, STORE, 0))
+MENDED = story(action(STORE))
+
+# A store is undone by the server, whose failure is passed over, and then by hand all the same. The rule, "1 or not 1": a recording is there, or was
+# withdrawn just once, or was never stored.
+UNDO = [action(SERVER), SKIP, (7, 2, 3), action(HAND), (3, 4, 5)]
+WITHDRAWN = whole([3, 3, 3, 1, 3, 3], [(STORE, SERVER), (STORE, HAND)],
+                  [action(SWEEP), action(STORE)] + UNDO + [(6, 1, 6), (3, 0, 7), action(TIME), (3, 8, 9), action(FILE), (3, 10, 11)],
+                  [STORE, STORE, 0x80, 0x82])

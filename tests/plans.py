@@ -1,31 +1,54 @@
 """Plan files made at random and damaged at random, and the number that the model refuses a file by.
 
-What make_vectors.py and fuzz_inspect.py share. The model is an independent reader of plan files in Python, a folder with oracle.py, which
-stands outside the repository.
+What make_vectors.py and the fuzz scripts share. The model is an independent reader of plan files in Python, a folder with oracle.py, cells.py and
+after.py, which stands outside the repository.
 """
-import importlib.util
-import os
+import importlib
 import sys
 
 # nothing is to be written beside the model
 sys.dont_write_bytecode = True
 
+SKIP, THROW = (1, 0, 0), (2, 0, 0)
+# how many pairs an action may be first in
+MOST_UNDOS = 3
+# as many pairs as there can be: seven actions, each with the same three undos
+TWENTY_ONE = [(a, u) for a in range(7) for u in (7, 8, 9)]
+
 
 def model_in(folder):
-    """the model's module oracle.py"""
-    spec = importlib.util.spec_from_file_location('oracle', os.path.join(folder, 'oracle.py'))
-    module = importlib.util.module_from_spec(spec)
-    spec.loader.exec_module(module)
-    return module
+    """the model's module cells.py, which has all of oracle.py's names too, with after.py's reader of files: several undos of an action, and none of an undo"""
+    sys.path.insert(0, folder)
+    oracle, cells, after = (importlib.import_module(name) for name in ('oracle', 'cells', 'after'))
+    # in both, since what oracle.py defines reads files by oracle.py's name
+    oracle.parse = cells.parse = lambda file, several=True: after.parse2(file, several, 1)
+    return cells
 
 
-def number_of(model, file):
-    """document 01's number for a file, as the model has it: 0 where it is accepted"""
+def asked(doc):
+    """what the words after a fuzz script's name ask for: the model, how many files, the seed, and how many undos an action may have"""
+    if len(sys.argv) not in (4, 5) or sys.argv[4:] not in ([], ['one']):
+        sys.exit(doc)
+    return model_in(sys.argv[1]), int(sys.argv[2]), int(sys.argv[3]), 1 if sys.argv[4:] else MOST_UNDOS
+
+
+def number_of(model, file, several=True):
+    """document 01's number for a file, as the model has it: 0 where it is accepted. Where not `several`, an action has one undo at most, and there are
+    nine pairs at most"""
     try:
-        model.parse(bytes(file))
+        model.parse(bytes(file), several)
         return 0
     except model.Refused as refused:
         return refused.args[0]
+
+
+def made(model, undos, make):
+    """the file that `make` makes. Where an action may have one undo only, it is one that reads the same whether or not more are allowed: damage may add
+    some"""
+    while True:
+        file = make()
+        if undos > 1 or number_of(model, file) == number_of(model, file, several=False):
+            return file
 
 
 def block(kind, body, length=None):
@@ -33,6 +56,20 @@ def block(kind, body, length=None):
     body = bytes(body)
     length = len(body) if length is None else length
     return length.to_bytes(2, 'little') + kind.to_bytes(2, 'little') + body
+
+
+def flat(rows):
+    return bytes(b for row in rows for b in row)
+
+
+def whole(types=(1,), pairs=(), nodes=(SKIP,), rule=(0,)):
+    """the file of four bodies"""
+    return block(1, types) + block(2, flat(pairs)) + block(3, flat(nodes)) + block(4, rule)
+
+
+def named(pairs):
+    """pairs as a name of a vector has them"""
+    return ' '.join(f'{a}{u}' for a, u in pairs)
 
 
 def blocks_of(file):
@@ -57,14 +94,24 @@ def in_another_order(rng, nodes):
     return [(f, place[l], place[r]) if f >= 3 else (f, l, r) for f, l, r in (nodes[i] for i in out + [len(nodes) - 1])]
 
 
-def random_plan(model, rng, leaves=None):
+def random_pairs(rng, actions, undos):
+    """pairs in any order: some actions are first, each in up to so many, and the others may be second; now and then there are as many as can be"""
+    many = rng.randrange(6) == 0
+    firsts = max(range(actions), key=lambda n: n * min(undos, actions - n)) if many else rng.randrange(actions)
+    order = rng.sample(range(actions), actions)
+    most = min(undos, actions - firsts)
+    pairs = [(a, u) for a in order[:firsts] for u in rng.sample(order[firsts:], most if many else rng.randrange(most + 1))]
+    return rng.sample(pairs, len(pairs))
+
+
+def random_plan(model, rng, leaves=None, undos=MOST_UNDOS):
     """the file of a plan of 1 to 10 actions and 1 to 32 leaves, a third of them with their nodes in an order other than the model's"""
     actions = rng.randrange(1, 11)
     types = [rng.choice([1, 2, 3]) for _ in range(actions)]
     nodes = model.nodes_of(model.rand_tree(rng, leaves or rng.choice([1, 2, 3, 5, 8, 13, 21, 32]), actions))
     nodes = in_another_order(rng, nodes) if rng.randrange(3) == 0 else nodes
     rule = model.rand_rule(rng, actions, rng.randrange(0, 7))
-    return model.encode(types, model.rand_pairs(rng, actions), nodes, rule)
+    return model.encode(types, random_pairs(rng, actions, undos), nodes, rule)
 
 
 def random_nodes(model, rng, actions):
@@ -74,30 +121,32 @@ def random_nodes(model, rng, actions):
             return rng.choice([('skip',), ('throw',), ('act', rng.randrange(actions))])
         left = rng.randrange(1, leaves)
         return (rng.choice(list(model.FORMNO)), tree(left), tree(leaves - left))
-    body = [b for node in model.nodes_of(tree(rng.choice([1, 2, 3, 5, 8, 21, 32, 33]))) for b in node]
+    body = bytearray(flat(model.nodes_of(tree(rng.choice([1, 2, 3, 5, 8, 21, 32, 33])))))
     for _ in range(rng.choice([0, 1, 1, 2])):
         at = rng.randrange(len(body))
         body[at] = (body[at] + rng.choice([1, 2, 255])) % 256
     return bytes(body)
 
 
-def random_body(model, rng, kind, actions):
+def random_body(model, rng, kind, actions, undos):
     """a body whose bytes are mostly near those that its kind permits"""
     action = lambda: rng.choice([rng.randrange(actions)] * 9 + [rng.randrange(256)])
     if kind == 1:
         return bytes(rng.choice([1, 2, 3] * 8 + [0, 4]) for _ in range(rng.choice([0, 1, 5, 10, 11])))
     if kind == 2:
-        return bytes(action() for _ in range(rng.choice([0, 2, 2, 4, 4, 5, 6, 18, 20])))
+        # half of them begin with pairs that may stand together
+        sound = flat(random_pairs(rng, actions, undos)) if rng.randrange(2) else b''
+        return (sound + bytes(action() for _ in range(44)))[:rng.choice([0, 2, 2, 4, 4, 5, 6, 8, 18, 20, 40, 41, 42, 42, 43, 44])]
     if kind == 3:
         return random_nodes(model, rng, actions)
     return bytes(rng.choice([action(), action(), 0x80, 0x81, 0x82]) for _ in range(rng.choice([0, 1, 2, 3, 4, 5, 7, 127, 128])))
 
 
-def random_blocks(model, rng):
+def random_blocks(model, rng, undos):
     """the file of a plan with one of its bodies made without regard to the others"""
-    parts = blocks_of(random_plan(model, rng))
+    parts = blocks_of(random_plan(model, rng, undos=undos))
     kind = rng.choice([1, 2, 3, 3, 3, 4, 4])
-    parts[kind - 1] = block(kind, random_body(model, rng, kind, len(parts[0]) - 4))
+    parts[kind - 1] = block(kind, random_body(model, rng, kind, len(parts[0]) - 4, undos))
     return b''.join(parts)
 
 

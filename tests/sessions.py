@@ -1,9 +1,8 @@
 """Sessions with a runner: what the model tells to entries that are offered, which jobs are real, and entries at random.
 
-What make_vectors.py and fuzz_run.py share. The model is a folder with oracle.py and cells.py, which stands outside the repository: the runner by
-one fold over the plan, for plans of any size, and by enumeration of the runs, for small ones. Where a plan is small the two are compared.
+What make_vectors.py and fuzz_run.py share. The model (plans.py says which) has the runner by one fold over the plan, for plans of any size, and by
+enumeration of the runs, for small ones. Where a plan is small the two are compared.
 """
-import importlib
 import re
 import sys
 
@@ -11,12 +10,6 @@ import sys
 FEW_LEAVES = 6
 NUMBER = '(0|[1-9][0-9]{0,2})'
 ENTRY = re.compile(f'{NUMBER} {NUMBER}'.encode())
-
-
-def cells_in(folder):
-    """the model's module cells.py, which has all of oracle.py's names too"""
-    sys.path.insert(0, folder)
-    return importlib.import_module('cells')
 
 
 def leaves_of(tree):

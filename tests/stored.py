@@ -64,10 +64,12 @@ SESSIONS = {
                    b'0 18446744073709551617\nzero one\n\0\n0\0 1\n\xff\n\xc2\xa00 1\n' + b'0 1' * 2000 + b'\n' + b'0' * 5000 + b' 1\n0 1', 'open'),
     # no line at all
     'no-input': ('p1', b'', 'open'),
+    # a recording is withdrawn by the server, and then by hand as well
+    'withdrawn-twice': ('withdrawn', b'0 1\n1 1\n9 2\n2 1\n5 1\n', 'may end failed'),
     # as many entries as a run can have
     'largest': ('largest', b''.join(b'%d 1\n' % n for n in [0] + list(range(1, 63, 2))), 'may end succeeded'),
 }
-CONSISTENT, VIOLATED = ('p1', 'mended'), ('p2', 'p3', 'p7', 'swallowed', 'largest')
+CONSISTENT, VIOLATED = ('p1', 'mended'), ('p2', 'p3', 'p7', 'swallowed', 'withdrawn', 'largest')
 
 
 def stored_cases(cells, of_course, own):
@@ -89,7 +91,7 @@ def stored_cases(cells, of_course, own):
             if not lines.startswith(kind):
                 sys.exit(f'{name}: the model does not say {kind}')
             yield f'verdict-{kind}-{name}', ['verdict', path(name)], None, lines.encode()
-    for name in ('p1', 'largest'):
+    for name in ('p1', 'withdrawn', 'largest'):
         yield f'inspect-accepted-{name}', ['inspect', path(name)], None, inspect_lines(cells, files[name]).encode()
     for case, (name, text, end) in SESSIONS.items():
         lines = run_lines(cells, files[name], text)

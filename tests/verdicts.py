@@ -4,14 +4,16 @@ What make_vectors.py writes. A vector's body is the number expected, four bytes,
 short, 1 for the work area and 2 for the record area; and the file. The number is 0 for consistent, 65,536 and the set for violated, and twice
 65,536 and the refusal's number for refused.
 """
+import functools
 import random
 import sys
 
-from plans import damaged, random_plan
+from plans import TWENTY_ONE, damaged, named, random_plan
 
 SEED_PLANS, PLANS = 20076, 300
 SEED_BROKEN, BROKEN = 20077, 300
 SEED_DAMAGED, DAMAGED = 20078, 100
+SEED_RULES, RULES = 20079, 40
 VIOLATED, REFUSED = 65536, 131072
 NOT, AND, OR = 0x80, 0x81, 0x82
 
@@ -47,6 +49,57 @@ def any_subset(form, around):
     return nodes
 
 
+def just(model, number):
+    """the node list of a plan whose actions always succeed and whose one set is this"""
+    actions = [('act', a) for a in range(10) if number >> a & 1] or [('skip',)]
+    return model.nodes_of(functools.reduce(lambda left, right: ('seq', left, right), actions))
+
+
+def rules_over(a):
+    """rules that tell the two values of an action: name, rule"""
+    either = [a, a, NOT, OR]
+    return {f'{a}': [a], f'not {a}': [a, NOT], f'{a} or not {a}': either, f'{a} and not {a}': [a, a, NOT, AND], f'not ({a} or not {a})': either + [NOT]}
+
+
+def one_set(model, actions, pairs, rules):
+    """for each set of the actions and each rule a plan whose only set it is, with one action more, which does not run: name, file"""
+    for number in range(1 << actions):
+        for name, rule in rules.items():
+            yield f'{name}, pairs {named(pairs)}, set {number}', model.encode([1] * (actions + 1), pairs, just(model, number), rule)
+
+
+def several_undos(model):
+    """one to three undos of an action: name, file"""
+    for pairs in ([(0, 1)], [(0, 1), (0, 2)], [(0, 1), (0, 2), (0, 3)], [(2, 1), (2, 0)], [(3, 2), (3, 0), (3, 1)]):
+        other = len(pairs) + 1
+        rules = rules_over(pairs[0][0])
+        # with an action that does not finish, "or it, and not it" says nothing
+        rules |= {f'long {name}': rule + [other, OR, other, NOT, AND] * 20 for name, rule in rules.items()}
+        yield from one_set(model, other, pairs, rules)
+    rules = {'0 or not 1': [0, 1, NOT, OR], '0 and 1': [0, 1, AND], 'not 0 and not 1': [0, NOT, 1, NOT, AND]}
+    yield from one_set(model, 5, [(0, 2), (1, 4), (0, 4), (1, 3), (0, 3)], rules)
+
+
+def rules_over_undone(a):
+    """rules over an action with the undos 7, 8 and 9: name, rule"""
+    yield from rules_over(a).items()
+    either = rules_over(a)[f'{a} or not {a}']
+    yield f'{a} or not {a}, or an undo', either + [7, OR, 8, OR, 9, OR]
+    yield f'{a} or not {a}, or not two undos', either + [7, 8, AND, 7, 9, AND, OR, 8, 9, AND, OR, NOT, OR]
+    yield f'{a} or not {a}, or not three undos', either + [7, 8, AND, 9, AND, NOT, OR]
+
+
+def twenty_one(model):
+    """ten actions of which every subset is left, with as many pairs as there can be: name, file"""
+    plan = lambda rule: model.encode([3] * 10, TWENTY_ONE, any_subset(4, 7), rule)
+    for a in range(7):
+        for name, rule in rules_over_undone(a):
+            yield f'21 pairs, {name}', plan(rule)
+    rng = random.Random(SEED_RULES)
+    for n in range(RULES):
+        yield f'21 pairs, rule {n} of seed {SEED_RULES}', plan(model.rand_rule(rng, 10, rng.randrange(2, 7)))
+
+
 def with_rule(model, file, rule):
     """the plan with another rule and no pairs"""
     types, _, nodes, _ = model.parse(bytes(file))
@@ -70,6 +123,9 @@ def plans(model, of_document, edges):
         yield f'all sets keep the rule, forms {form} {around}', model.encode(types, [], nodes, [0, 0, NOT, OR]), 0
         for number in (0, 1, 2, 63, 64, 511, 512, 1022, 1023):
             yield f'set {number} breaks the rule, forms {form} {around}', model.encode(types, [], nodes, not_just(10, number)), 0
+    for part in (several_undos, twenty_one):
+        for name, file in part(model):
+            yield name, file, 0
     rng = random.Random(SEED_PLANS)
     for n in range(PLANS):
         yield f'plan {n} of seed {SEED_PLANS}', random_plan(model, rng), 0
@@ -88,7 +144,7 @@ def plans(model, of_document, edges):
 # what document 01 itself says
 SAID = {'P1': 0, 'P2': VIOLATED + 2, 'P7': VIOLATED + 2}
 # and the office's story
-SAID |= {'swallowed': VIOLATED + 13, 'mended': 0}
+SAID |= {'swallowed': VIOLATED + 13, 'mended': 0, 'withdrawn': VIOLATED + 51}
 
 
 def verdict_vectors(model, of_document, edges):

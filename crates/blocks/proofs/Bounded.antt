@@ -53,6 +53,18 @@ module _ (p : ℕ → Bool) where
       go (inl h) = absurd (true≢false (sym (every-at n i h l) ∙ e))
       go (inr h) = h
 
+  -- where p does not hold of each number, it fails at one
+  pub every-missed : (n : ℕ) → every n p ≡ false → (i : ℕ) × (i < n) × (p i ≡ false)
+  unfolding every
+  every-missed zero h = absurd (true≢false h)
+  every-missed (suc n) h = go (every-missed n) (p n) refl
+    where
+      go : (every n p ≡ false → (i : ℕ) × (i < n) × (p i ≡ false)) → (t : Bool) → p n ≡ t → (i : ℕ) × (i < suc n) × (p i ≡ false)
+      go rest true e =
+          let (i, l, m) = rest (rw e at h) in
+          (i, omega arith, m)
+      go rest false e = (n, omega arith, e)
+
   -- the invariant of a loop over the numbers below n that stops where p fails: p has held of those below i
   pub record Passed (n i : ℕ) : Type 0 where
     pub most : i ≤ n
@@ -116,6 +128,22 @@ module _ (g : ℕ → ℕ) where
       go : (k < n → total n g ≡ g k) → (k ≡ n) ⊎ (k < n) → g n + total n g ≡ g k
       go rest (inl e) = rw e (omega (arith, total-none n (λ i j. h i (omega arith) (λ z. omega arith))))
       go rest (inr m) = omega (arith, rest m, h n (omega arith) (λ z. omega arith))
+
+-- two sums whose terms are the same
+pub total-same : (g h : ℕ → ℕ) (n : ℕ) → ((i : ℕ) → i < n → g i ≡ h i) → total n g ≡ total n h
+unfolding total
+total-same g h zero same = refl
+total-same g h (suc n) same = omega (arith, same n (omega arith), total-same g h n (λ i l. same i (omega arith)))
+
+-- or the same but at k
+pub total-but : (g h : ℕ → ℕ) (n k : ℕ) → k < n → ((i : ℕ) → i < n → (i ≡ k → ⊥) → g i ≡ h i) → total n g + h k ≡ total n h + g k
+unfolding total
+total-but g h zero k l same = absurd (not-suc-le-zero l)
+total-but g h (suc n) k l same = go (λ m. total-but g h n k m (λ i j d. same i (omega arith) d)) (last n k l)
+  where
+    go : (k < n → total n g + h k ≡ total n h + g k) → (k ≡ n) ⊎ (k < n) → g n + total n g + h k ≡ h n + total n h + g k
+    go rest (inl e) = rw e (omega (arith, total-same g h n (λ i j. same i (omega arith) (λ z. omega arith))))
+    go rest (inr m) = omega (arith, rest m, same n (omega arith) (λ z. omega arith))
 
 pub one-most : (t : Bool) → one t ≤ 1
 one-most true = omega arith

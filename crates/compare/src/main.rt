@@ -8,10 +8,10 @@ use libc::STDOUT_FILENO;
 use vectors::Group;
 
 // Room for a whole data file. A longer one is cut there, and is damaged where a vector or more is then missing.
-fn room() -> [u8; 655360]
-    ensures { λ r. ⌜ 655360 ≡ length r ⌝ }
+fn room() -> [u8; 1048576]
+    ensures { λ r. ⌜ 1048576 ≡ length r ⌝ }
 {
-    [0; 655360]
+    [0; 1048576]
 }
 
 // The group's vectors, from the data file of this name.

@@ -1,9 +1,9 @@
 // Judges the plans of the course, one after the other: the name of each, and then the lines of its verdict.
 use libc::STDOUT_FILENO;
 
-// The plan of this name. The largest plan file has 360 bytes, and a longer one is refused by the same number as its first 361 bytes.
+// The plan of this name. One that is longer than the largest plan file is refused by the number of its first MOST_BYTES + 1 bytes.
 fn plan(name: &[u8]) {
-    let mut file = [0u8; 361];
+    let mut file = [0u8; plan::MOST_BYTES + 1];
     let got = input::fill_from(name, &mut file);
     if got.failed {
         os::fail(name);
@@ -27,4 +27,5 @@ fn main() {
     plan(b"swallowed.plan");
     plan(b"mended.plan");
     plan(b"broken.plan");
+    plan(b"withdrawn.plan");
 }

@@ -2,9 +2,9 @@
 use libc::STDIN_FILENO;
 use libc::STDOUT_FILENO;
 
-// The largest plan file has 360 bytes, and a longer input is refused by the same number as its first 361 bytes.
+// An input that is longer than the largest plan file is refused by the number of its first MOST_BYTES + 1 bytes.
 fn main() {
-    let mut file = [0u8; 361];
+    let mut file = [0u8; plan::MOST_BYTES + 1];
     let got = input::fill(STDIN_FILENO, &mut file);
     if got.failed {
         os::fail(b"standard input");

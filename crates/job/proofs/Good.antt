@@ -9,7 +9,7 @@ use lib.ListN.{length, set, replicate, length-append, length-replicate, length-s
 use lib.Seq.{take-append-seam}
 use borrow.Author.Tests.{le-leb, lt-ltb}
 use Rattle.process.specs.Process.{Process, Run}
-use Rattle.plan.specs.PlanFile.{Runnable}
+use Rattle.plan.specs.PlanFile.{mostBytes, Runnable}
 use Rattle.plan.specs.Reading.{bytesOf, readOf}
 use Rattle.plan.specs.Tree.{processOf}
 use Rattle.plan.specs.declared.Layout.{Layout}
@@ -77,9 +77,9 @@ module _ (s : List ℕ) (l : Layout) (acc : readOf s ≡ Accepted l) where
   fresh-good =
       let few = demand1 .most s l acc in
       record {
-        plan = take-append-seam s (replicate (360 - length s) 0);
-        sized = record { file = simp length-append (omega (arith, length-replicate {A = ℕ} (360 - length s) 0)); entries = refl };
-        neat = record { file-fits = few; few = omega arith; file-zeros = padded-zeros s (360 - length s); entries-zeros = zeros-past (replicate 126 0) (2 * 0) (λ i h k. zeros-at 126 i) };
+        plan = take-append-seam s (replicate (mostBytes - length s) 0);
+        sized = record { file = simp length-append (omega (arith, length-replicate {A = ℕ} (mostBytes - length s) 0)); entries = refl };
+        neat = record { file-fits = few; few = omega arith; file-zeros = padded-zeros s (mostBytes - length s); entries-zeros = zeros-past (replicate 126 0) (2 * 0) (λ i h k. zeros-at 126 i) };
         table = freshTable;
         state = refl;
       }

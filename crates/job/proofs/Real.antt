@@ -11,6 +11,7 @@ use lib.ListN.{length, getD, set, replicate, length-set}
 use lib.Seq.{ext-getD, getD-set-same, getD-set-other, length-take-le}
 use borrow.Author.Tests.{ltb-true, ltb-false, eqb-true, eqb-false}
 use Rattle.blocks.proofs.Bounded.{decide}
+use Rattle.plan.specs.PlanFile.{mostBytes}
 use Rattle.plan.specs.Reading.{bytesOf, readOf}
 use Rattle.plan.specs.declared.Layout.{Layout}
 use Rattle.plan.specs.declared.Reading.{Reading}
@@ -129,7 +130,7 @@ module _ (s : List ℕ) (l : Layout) (acc : readOf s ≡ reading.Accepted l) (r 
     (whole : stateAfter (bytesOf s (l .types)) (bytesOf s (l .nodes)) r taken .ok ≡ true) where
   -- the job of the first k entries
   abbrev at : ℕ → Job
-  at k = record { file = s ++ replicate (360 - length s) 0; «file_len» = length s; entries = firsts r k; taken = k }
+  at k = record { file = s ++ replicate (mostBytes - length s) 0; «file_len» = length s; entries = firsts r k; taken = k }
 
   record Led (k : ℕ) : Type 0 where
     pub good : Good s l acc (at k)
@@ -168,7 +169,7 @@ module _ (s : List ℕ) (l : Layout) (acc : readOf s ≡ reading.Accepted l) (r 
           }
 
 -- the areas of a tidy job are those of its plan file and its record
-tidy-file : (j : Job) → Sized j → Tidy j → planOf j ++ replicate (360 - length (planOf j)) 0 ≡ j .file
+tidy-file : (j : Job) → Sized j → Tidy j → planOf j ++ replicate (mostBytes - length (planOf j)) 0 ≡ j .file
 tidy-file j z t =
     let long : length (planOf j) ≡ j .«file_len» = length-take-le (j .«file_len») (j .file) (omega (arith, z .file, t .file-fits)) in
     rw (long, ← z .file) (padded-back (j .file) (j .«file_len») (omega (arith, z .file, t .file-fits)) (t .file-zeros))

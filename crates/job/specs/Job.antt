@@ -6,6 +6,7 @@ use Prim.Native.Nat.{ℕ, _+_, _-_, _*_}
 use lib.Dec.{leb, ltb, eqb}
 use lib.ListN.{length, getD, set, take, replicate}
 use Rattle.blocks.specs.Bounded.{every}
+use Rattle.plan.specs.PlanFile.{mostBytes}
 use Rattle.plan.specs.Reading.{nodeLimit, ruleLimit, bytesOf, readOf}
 use Rattle.plan.specs.declared.Layout.{Layout}
 use Rattle.plan.specs.declared.Reading.{Reading}
@@ -39,11 +40,11 @@ refusal n j = record { answer = answer.Refused n; job = j }
 
 -- What a start that is refused hands back: no plan, and no job that a start or an entry gives.
 abbrev pub noJob : Job
-noJob = record { file = replicate 360 0; «file_len» = 0; entries = replicate 126 0; taken = 0 }
+noJob = record { file = replicate mostBytes 0; «file_len» = 0; entries = replicate 126 0; taken = 0 }
 
 -- The fresh job of a plan file: its bytes, then zeros, and no entry.
 abbrev pub freshJob : List ℕ → Job
-freshJob s = record { file = s ++ replicate (360 - length s) 0; «file_len» = length s; entries = replicate 126 0; taken = 0 }
+freshJob s = record { file = s ++ replicate (mostBytes - length s) 0; «file_len» = length s; entries = replicate 126 0; taken = 0 }
 
 abbrev pub startWith : List ℕ → Layout → Taken
 startWith s l = record { answer = answer.Told (saying (toldBy (bytesOf s (l .nodes)) freshTable)); job = freshJob s }
@@ -67,7 +68,7 @@ zerosFrom s at = every (length s) (λ i. cond (ltb i at) true (eqb (getD s i 0) 
 -- The lengths are in range, and the bytes past the plan file and past the record are 0.
 abbrev pub tidy : Job → Bool
 tidy j =
-    cond (leb (j .«file_len») 360) (cond (ltb (j .taken) 63) (cond (zerosFrom (j .file) (j .«file_len»)) (zerosFrom (j .entries) (2 * j .taken)) false) false) false
+    cond (leb (j .«file_len») mostBytes) (cond (ltb (j .taken) 63) (cond (zerosFrom (j .file) (j .«file_len»)) (zerosFrom (j .entries) (2 * j .taken)) false) false) false
 
 -- The job with one entry more.
 abbrev pub withEntry : Job → Entry → Job

@@ -8,6 +8,7 @@ use lib.Dec.{eqb}
 use lib.ListN.{length}
 use Rattle.process.specs.Process.{Status, ok, fail, entry, Run}
 use Rattle.process.specs.Process as process
+use Rattle.plan.specs.PlanFile.{mostBytes}
 use Rattle.plan.specs.Reading.{bytesOf, readOf}
 use Rattle.plan.specs.declared.Layout.{Layout}
 use Rattle.plan.specs.declared.Reading.the-variants.{Accepted}
@@ -77,5 +78,5 @@ pub record Real (j : Job) : Type 0 where
 
 -- A value of the type Job has areas of these sizes.
 pub record Sized (j : Job) : Type 0 where
-  pub file : length (j .file) ≡ 360
+  pub file : length (j .file) ≡ mostBytes
   pub entries : length (j .entries) ≡ 126

@@ -8,7 +8,7 @@ ghost use Prim.Native.Nat.{_≤_, _<_};
 ghost use mathlib.Core.Bool.{true, cond};
 ghost use lib.Dec.{ltb, eqb};
 ghost use lib.ListN.{length};
-ghost use Rattle.plan.specs.PlanFile.{Runnable};
+ghost use Rattle.plan.specs.PlanFile.{mostBytes, Runnable};
 ghost use Rattle.plan.specs.Reading.{bytesOf, readOf};
 ghost use Rattle.job.specs.Job.{limits, endOf, saying, refusal, noJob, freshJob, startWith, startOf, zerosFrom, tidy, withEntry, afterEntry, takeWith, takeOn, takeOf, planOf};
 
@@ -36,7 +36,7 @@ pub enum Answer {
 
 // A job: the bytes of its plan file, and its record so far, two bytes an entry; the bytes past both are 0.
 pub struct Job {
-    pub file: [u8; 360],
+    pub file: [u8; plan::MOST_BYTES],
     pub file_len: usize,
     pub entries: [u8; 126],
     pub taken: usize,
@@ -105,7 +105,7 @@ fn is_tidy(j: Job) -> bool
 {
     let file = j.file;
     let entries = j.entries;
-    if j.file_len <= 360 {
+    if j.file_len <= plan::MOST_BYTES {
         if j.taken < 63 {
             if zeros_from(&file, j.file_len) {
                 return zeros_from(&entries, 2 * j.taken);
@@ -172,7 +172,7 @@ fn no_job() -> Job
     ensures { λ r. ⌜ r ≡ noJob ⌝ }
 {
     Job {
-        file: [0u8; 360],
+        file: [0u8; plan::MOST_BYTES],
         file_len: 0,
         entries: [0u8; 126],
         taken: 0,
@@ -181,10 +181,10 @@ fn no_job() -> Job
 
 // The fresh job of a plan file.
 fn fresh_job(s: &[u8]) -> Job
-    requires { ⌜ length (now s) ≤ 360 ⌝ }
+    requires { ⌜ length (now s) ≤ mostBytes ⌝ }
     ensures { λ r. ⌜ r ≡ freshJob (now (s .entry)) ⌝ }
 {
-    let mut file = [0u8; 360];
+    let mut file = [0u8; plan::MOST_BYTES];
     blocks::copy(&mut file, 0, s);
     Job {
         file,

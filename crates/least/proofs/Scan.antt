@@ -18,7 +18,8 @@ use Rattle.family.proofs.Bits.{bit-small, no-bit}
 use Rattle.family.proofs.Lowest.{Lowest}
 use Rattle.meaning.specs.Value.{satisfies}
 use Rattle.rule.specs.Words.{Tells}
-use Rattle.rule.proofs.Words.{one-bit, tells-and, tells-not}
+use Rattle.rule.proofs.Shared.{one-bit}
+use Rattle.rule.proofs.Words.{tells-and, tells-not}
 use Rattle.least.specs.Least.{Breaks, violates, Smallest}
 
 is-some : (t : Bool) → one t ≡ 1 → t ≡ true

@@ -5,14 +5,19 @@ use Prim.Native.Nat.{ℕ}
 use Rattle.meaning.specs.declared.Value.{Value}
 use Rattle.meaning.specs.Value.{top, satisfies}
 use Rattle.meaning.specs.Laws.{Laws}
-use Rattle.meaning.proofs.Literal.{with-undo, without-undo, undo-alone}
+use Rattle.meaning.proofs.Literal.{counted, without-undo, with-undo, done, not-done, undone, undone-twice, undo-alone}
 use Rattle.meaning.proofs.Meaning.{one-part, opposite}
 
 pub laws : (pairs : List ℕ) (set : ℕ) → Laws pairs set
 unfolding satisfies
 laws pairs set = record {
-  with-undo = with-undo pairs set;
+  counted = counted pairs set;
   without-undo = without-undo pairs set;
+  with-undo = with-undo pairs set;
+  done = done pairs set;
+  not-done = not-done pairs set;
+  undone = undone pairs set;
+  undone-twice = undone-twice pairs set;
   undo-alone = undo-alone pairs set;
   one-part = λ r few short. one-part pairs set r few short;
   satisfied = λ r few short. ap (λ (s : List Value). top s .positive) (one-part pairs set r few short);

@@ -5,7 +5,7 @@ use Prim.Native.Nat.{ℕ}
 use native.Mathlib.Omega.{arith}
 use Rattle.plan.specs.Reading.{bytesOf, readOf}
 use Rattle.plan.specs.Demand1.{InARow, Demand1}
-use Rattle.plan.specs.PlanFile.{Runnable}
+use Rattle.plan.specs.PlanFile.{mostActions, mostPairs, Runnable}
 use Rattle.plan.specs.declared.Layout.{Layout}
 use Rattle.plan.specs.declared.Reading.the-variants.{Accepted}
 use Rattle.plan.proofs.Lengths.{at-most}
@@ -15,16 +15,16 @@ use Rattle.plan.proofs.Prefix.{beginning-decides}
 use Rattle.plan.proofs.InBlocks.{in-blocks}
 use Rattle.plan.proofs.Tree.{drawn}
 
-laid : (s : List ℕ) (l : Layout) → readOf s ≡ Accepted l → Laid 10 9 s l
-laid s l h = accepted-laid 10 9 s l h
+laid : (s : List ℕ) (l : Layout) → readOf s ≡ Accepted l → Laid mostActions mostPairs s l
+laid s l h = accepted-laid mostActions mostPairs s l h
 
-in-a-row : (s : List ℕ) (l : Layout) → Laid 10 9 s l → InARow s l
+in-a-row : (s : List ℕ) (l : Layout) → Laid mostActions mostPairs s l → InARow s l
 in-a-row s l b = record { types = b .types .start; pairs = b .pairs .start; nodes = b .nodes .start; rule = b .rule .start; end = b .end }
 
 -- what running an accepted plan rests on
 pub runnable : (s : List ℕ) (l : Layout) → readOf s ≡ Accepted l → Runnable (bytesOf s (l .types)) (bytesOf s (l .nodes))
 runnable s l h =
-    let b = accepted-holds 10 9 (omega arith) s l h in
+    let b = accepted-holds mostActions mostPairs (omega arith) s l h in
     record {
       types-few = omega (arith, at-most (b .types-hold .size));
       types-hold = b .types-hold .holds;
@@ -35,12 +35,14 @@ runnable s l h =
 
 pub demand1 : Demand1
 demand1 = record {
-  accepts = λ s bytes. accepted-exactly 10 9 (omega arith) s bytes;
-  refuses = λ s bytes n. refused-exactly 10 9 (omega arith) s bytes n;
+  accepts = λ s bytes. accepted-exactly mostActions mostPairs (omega arith) s bytes;
+  refuses = λ s bytes n. refused-exactly mostActions mostPairs (omega arith) s bytes n;
+  accepts-within = λ actionLimit pairLimit few s bytes. accepted-exactly actionLimit pairLimit few s bytes;
+  refuses-within = λ actionLimit pairLimit few s bytes n. refused-exactly actionLimit pairLimit few s bytes n;
   blocks = in-blocks;
-  holds = λ s l h. accepted-holds 10 9 (omega arith) s l h;
-  most = λ s l h. most-bytes 10 9 s l (laid s l h);
+  holds = λ s l h. accepted-holds mostActions mostPairs (omega arith) s l h;
+  most = λ s l h. most-bytes mostActions mostPairs s l (laid s l h);
   row = λ s l h. in-a-row s l (laid s l h);
   tree = λ s l h. drawn (bytesOf s (l .types)) (bytesOf s (l .nodes)) (runnable s l h);
-  beginning = λ s n h k. beginning-decides 10 9 s n k (omega arith);
+  beginning = λ s n h k. beginning-decides mostActions mostPairs s n k (omega arith);
 }

@@ -6,7 +6,7 @@ use lib.ListN.{drop}
 use lib.Seq.{drop-length}
 use Rattle.blocks.specs.Block.{block}
 use Rattle.plan.specs.Demand1.{InBlocks}
-use Rattle.plan.specs.PlanFile.{Bytes}
+use Rattle.plan.specs.PlanFile.{mostActions, mostPairs, Bytes}
 use Rattle.plan.specs.Reading.{bytesOf, endOf, readOf}
 use Rattle.plan.specs.declared.Layout.{Layout}
 use Rattle.plan.specs.declared.Reading.the-variants.{Accepted}
@@ -15,7 +15,7 @@ use Rattle.plan.proofs.Blocks.{block-here}
 
 pub in-blocks : (s : List ℕ) → Bytes s → (l : Layout) → readOf s ≡ Accepted l → InBlocks s l
 in-blocks s bytes l h =
-    let b = accepted-laid 10 9 s l h in
+    let b = accepted-laid mostActions mostPairs s l h in
     let t = b .types in
     let p = b .pairs in
     let n = b .nodes in

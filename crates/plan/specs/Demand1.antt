@@ -9,9 +9,9 @@ use Rattle.process.specs.Leaves.{AsWritten, HasLeaf, Distinct}
 use Rattle.process.specs.Depth.{Flat}
 use Rattle.blocks.specs.Block.{block}
 use Rattle.nodes.specs.Nodes.{count, form, Under}
-use Rattle.plan.specs.PlanFile.{Bytes, Bodies, PlanFile}
+use Rattle.plan.specs.PlanFile.{mostActions, mostPairs, mostBytes, Bytes, Bodies, PlanFile}
 use Rattle.plan.specs.Refusals.{Broken}
-use Rattle.plan.specs.Reading.{bytesOf, endOf, readOf}
+use Rattle.plan.specs.Reading.{bytesOf, endOf, readWithin, readOf}
 use Rattle.plan.specs.Tree.{processOf}
 use Rattle.plan.specs.declared.Layout.{Layout}
 use Rattle.plan.specs.declared.Reading.the-variants.{Accepted, Refused}
@@ -43,16 +43,21 @@ pub record Drawn (types nodes : List ℕ) : Type 0 where
 
 pub record Demand1 : Type 0 where
   -- a file is accepted exactly where it is a plan file
-  pub accepts : (s : List ℕ) → Bytes s → ((l : Layout) × (readOf s ≡ Accepted l)) ↔ PlanFile 10 9 s
+  pub accepts : (s : List ℕ) → Bytes s → ((l : Layout) × (readOf s ≡ Accepted l)) ↔ PlanFile mostActions mostPairs s
   -- and refused by a number exactly where that is document 01's number for what is wrong with it
-  pub refuses : (s : List ℕ) → Bytes s → (n : ℕ) → (readOf s ≡ Refused n) ↔ Broken 10 9 s n
+  pub refuses : (s : List ℕ) → Bytes s → (n : ℕ) → (readOf s ≡ Refused n) ↔ Broken mostActions mostPairs s n
+  -- and so it is under other limits for actions and pairs, which another call may read with
+  pub accepts-within : (actionLimit pairLimit : ℕ) → actionLimit ≤ 128 → (s : List ℕ) → Bytes s
+      → ((l : Layout) × (readWithin actionLimit pairLimit s ≡ Accepted l)) ↔ PlanFile actionLimit pairLimit s
+  pub refuses-within : (actionLimit pairLimit : ℕ) → actionLimit ≤ 128 → (s : List ℕ) → Bytes s → (n : ℕ)
+      → (readWithin actionLimit pairLimit s ≡ Refused n) ↔ Broken actionLimit pairLimit s n
   -- the bodies of an accepted file are those of its blocks, and hold what document 01 permits
   pub blocks : (s : List ℕ) → Bytes s → (l : Layout) → readOf s ≡ Accepted l → InBlocks s l
-  pub holds : (s : List ℕ) (l : Layout) → readOf s ≡ Accepted l → Holds 10 9 s l
-  -- an accepted file has at most 360 bytes, and its bodies lie in a row
-  pub most : (s : List ℕ) (l : Layout) → readOf s ≡ Accepted l → length s ≤ 360
+  pub holds : (s : List ℕ) (l : Layout) → readOf s ≡ Accepted l → Holds mostActions mostPairs s l
+  -- an accepted file is at most as long as the largest, and its bodies lie in a row
+  pub most : (s : List ℕ) (l : Layout) → readOf s ≡ Accepted l → length s ≤ mostBytes
   pub row : (s : List ℕ) (l : Layout) → readOf s ≡ Accepted l → InARow s l
   -- its nodes draw one tree
   pub tree : (s : List ℕ) (l : Layout) → readOf s ≡ Accepted l → Drawn (bytesOf s (l .types)) (bytesOf s (l .nodes))
   -- of a longer input the beginning decides
-  pub beginning : (s : List ℕ) (n : ℕ) → 360 < n → n ≤ length s → readOf (take n s) ≡ readOf s
+  pub beginning : (s : List ℕ) (n : ℕ) → mostBytes < n → n ≤ length s → readOf (take n s) ≡ readOf s

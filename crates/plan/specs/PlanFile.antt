@@ -21,11 +21,21 @@ pub record Items (unit least most n : ℕ) : Type 0 where
   pub enough : least ≤ number
   pub few : number ≤ most
 
+-- The limits of a plan file: document 01's "1 to 10 actions", N3's "up to 21 pairs", and the bytes that come to, "the largest file has 384".
+abbrev pub mostActions : ℕ
+mostActions = 10
+
+abbrev pub mostPairs : ℕ
+mostPairs = 21
+
+abbrev pub mostBytes : ℕ
+mostBytes = 384
+
 -- The lengths that a body may have. "Kind 1, types: one byte for each action, 1 to 10 actions"
 abbrev pub TypesSize : ℕ → ℕ → Type 0
 TypesSize actionLimit n = Items 1 1 actionLimit n
 
--- "Kind 2, undo pairs: two bytes each, .. 0 to 9 pairs."
+-- "Kind 2, undo pairs: two bytes each", as many as the limit says
 abbrev pub PairsSize : ℕ → ℕ → Type 0
 PairsSize pairLimit n = Items 2 0 pairLimit n
 
@@ -73,7 +83,7 @@ pub record PlanFile (actionLimit pairLimit : ℕ) (s : List ℕ) : Type 0 where
 
 -- What running a plan rests on: its types and its nodes, as an accepted file has them.
 pub record Runnable (types nodes : List ℕ) : Type 0 where
-  pub types-few : length types ≤ 10
+  pub types-few : length types ≤ mostActions
   pub types-hold : Types types
   pub nodes-some : 3 ≤ length nodes
   pub nodes-few : length nodes ≤ 189

@@ -13,6 +13,7 @@ use Rattle.bodies.specs.Types.{typesOk}
 use Rattle.bodies.specs.Pairs.{pairsOk}
 use Rattle.nodes.specs.NodeTests.{nodesFault}
 use Rattle.bodies.specs.Rule.{ruleOk}
+use Rattle.plan.specs.PlanFile.{mostActions, mostPairs}
 use Rattle.plan.specs.declared.Block.{Block}
 use Rattle.plan.specs.declared.Block.the-variants as block
 use Rattle.plan.specs.declared.Reading.{Reading}
@@ -90,9 +91,9 @@ withTypes pairLimit s types = onBlock (blockAt s (endOf types) 2 pairLimit (type
 abbrev pub readWithin : ℕ → ℕ → List ℕ → Reading
 readWithin actionLimit pairLimit s = onBlock (blockAt s 0 1 actionLimit 0) (withTypes pairLimit s)
 
--- the answer for a plan file: 1 to 10 actions, 0 to 9 pairs
+-- the answer for a plan file
 abbrev pub readOf : List ℕ → Reading
-readOf s = readWithin 10 9 s
+readOf s = readWithin mostActions mostPairs s
 
 -- document 01's number for each answer: 0 stands for none
 abbrev pub numberOf : Reading → ℕ

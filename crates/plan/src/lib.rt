@@ -9,11 +9,14 @@ ghost use Rattle.plan.specs.Reading.{bytesOf, lengthOk, fault, judged, b
 // The limits of a plan file.
 pub const MOST_ACTIONS: u8 = 10;
 
-pub const MOST_PAIRS: u8 = 9;
+pub const MOST_PAIRS: u8 = 21;
 
 pub const MOST_NODES: u8 = 63;
 
 pub const MOST_RULE: u8 = 127;
+
+// The bytes of the largest plan file, its four headings among them.
+pub const MOST_BYTES: usize = 384;
 
 // Where the four bodies of a plan file lie. The number of its actions is `types.len`.
 pub struct Layout {

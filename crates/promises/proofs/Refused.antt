@@ -9,7 +9,7 @@ use lib.Dec.{ltb}
 use lib.ListN.{length}
 use borrow.Author.Tests.{ltb-true, ltb-false}
 use Rattle.blocks.proofs.Bounded.{decide}
-use Rattle.plan.specs.PlanFile.{Bytes}
+use Rattle.plan.specs.PlanFile.{mostActions, mostPairs, Bytes}
 use Rattle.plan.specs.Refusals.{BlockFault, Unless, NodesFault, Broken}
 use Rattle.plan.specs.Reading as reader
 use Rattle.plan.specs.declared.Layout.{Layout}
@@ -54,7 +54,7 @@ block-number kind Size Fault rest _ h (BlockFault.other-length len tail e f) = (
 block-number kind Size Fault rest _ h (BlockFault.cut-body len tail e f g) = (omega arith, omega arith)
 block-number kind Size Fault rest n h (BlockFault.contents body tail e f g) = h body n g
 
-broken-number : (s : List ℕ) (n : ℕ) → Broken 10 9 s n → Number n
+broken-number : (s : List ℕ) (n : ℕ) → Broken mostActions mostPairs s n → Number n
 broken-number s n (Broken.in-types f) = block-number _ _ _ _ n (λ body m u. unless-number _ 4 m (omega arith, omega arith) u) f
 broken-number s n (Broken.in-pairs types rest e t f) = block-number _ _ _ _ n (λ body m u. unless-number _ 5 m (omega arith, omega arith) u) f
 broken-number s n (Broken.in-nodes types pairs rest e t p f) = block-number _ _ _ _ n (λ body m u. nodes-number (length types) body m u) f

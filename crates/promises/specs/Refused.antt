@@ -6,7 +6,7 @@ use mathlib.Core.List.{List}
 use mathlib.Core.Logic.{_↔_}
 use Prim.Native.Nat.{ℕ, _≤_, _<_}
 use lib.ListN.{length}
-use Rattle.plan.specs.PlanFile.{Bytes, PlanFile}
+use Rattle.plan.specs.PlanFile.{mostActions, mostPairs, Bytes, PlanFile}
 use Rattle.plan.specs.Refusals.{Broken}
 use Rattle.plan.specs.Demand1.{InBlocks, Holds}
 use Rattle.plan.specs.Reading as reader
@@ -25,8 +25,8 @@ use Rattle.judge.specs.declared.Judgement.{Judgement}
 
 -- A broken plan file has the number of what is wrong with it, and every other file is accepted: 0.
 pub record Files (s : List ℕ) (number : ℕ) : Type 0 where
-  pub broken : (n : ℕ) → 1 ≤ n → (number ≡ n) ↔ Broken 10 9 s n
-  pub in-order : (number ≡ 0) ↔ PlanFile 10 9 s
+  pub broken : (n : ℕ) → 1 ≤ n → (number ≡ n) ↔ Broken mostActions mostPairs s n
+  pub in-order : (number ≡ 0) ↔ PlanFile mostActions mostPairs s
 
 -- A step that is permitted at that moment: a start and entries have given the job, and the entry continues its record to the beginning of
 -- a run of its plan.
@@ -52,7 +52,7 @@ pub record Demand1 : Type 0 where
   -- reading a file
   pub reading : (s : List ℕ) → Bytes s → Files s (reader.numberOf (reader.readOf s))
   -- what is accepted is read as it stands: the bodies that are found are those of the file's four blocks, and in order
-  pub bodies : (s : List ℕ) → Bytes s → (l : Layout) → reader.readOf s ≡ Accepted l → InBlocks s l × Holds 10 9 s l
+  pub bodies : (s : List ℕ) → Bytes s → (l : Layout) → reader.readOf s ≡ Accepted l → InBlocks s l × Holds mostActions mostPairs s l
   -- starting a job from it; beside a refusal stands a job that is none
   pub starting : (s : List ℕ) → Bytes s → Files s (runner.numberOf (startOf s .answer))
   pub no-start : (s : List ℕ) → 1 ≤ runner.numberOf (startOf s .answer) → startOf s .job ≡ noJob

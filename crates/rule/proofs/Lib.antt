@@ -1,4 +1,4 @@
-pub mod Meets
+pub mod Shared
 pub mod Words
 pub mod Gathered
 pub mod Places

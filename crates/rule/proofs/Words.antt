@@ -1,27 +1,26 @@
 -- Words that tell a test's answers at 64 sets are joined as the answers are: and, or, not, bit by bit. So are the two values of a part, and so
--- come the values of a literal from which sets have the action and which have an undo of it.
+-- come the values of a literal from which sets have the action, which have an undo of it, and which have more than one.
 use mathlib.Core.Path.{_≡_, refl, ap, ap₂, _∙_}
 use mathlib.Core.Bool.{Bool, true, false, not, _&&_, _||_}
 use mathlib.Core.List.{List}
-use mathlib.Core.Logic.{inl, inr}
-use Prim.Native.Nat.{ℕ, _+_, _-_, _*_, _/_, _%_, _^_, _<_, max, min}
+use Prim.Native.Nat.{ℕ, zero, suc, _+_, _-_, _*_, _/_, _%_, _^_, _<_, max, min}
 use native.Mathlib.Nat.{mod-lt, div-add-mod'}
 use native.Mathlib.Omega.{arith}
 use lib.Bits.{bitOr, bitAnd, or-lt}
-use lib.Dec.{eqb}
+use lib.Dec.{leb, eqb}
 use lib.ListN.{getD}
-use borrow.Author.Tests.{eq-eqb, ne-eqb}
+use borrow.Author.Tests.{ne-eqb, le-leb}
 use Rattle.blocks.specs.Bounded.{one}
 use Rattle.family.specs.Family.{bitAt}
-use Rattle.family.proofs.Numbers.{same-or-other}
 use Rattle.family.proofs.Bits.{bit-or, bit-and, bit-not}
 use Rattle.meaning.specs.declared.Value.{Value}
-use Rattle.meaning.specs.Literal.{finished, undosFinished, literal}
+use Rattle.meaning.specs.Literal.{finished, undosFinished, literalOf, literal}
 use Rattle.meaning.specs.Meaning.{swapped, both, either}
+use Rattle.rule.specs.declared.Met.{Met}
 use Rattle.rule.specs.declared.Values.{Values}
 use Rattle.undos.specs.Masks.{Masks}
-use Rattle.rule.specs.Words.{meets, Tells, TellsValues}
-use Rattle.rule.proofs.Meets.{meets-mask}
+use Rattle.rule.specs.Words.{shared, Tells, TellsNumber, TellsValues}
+use Rattle.rule.proofs.Shared.{shared-mask}
 
 one-and : (a b : Bool) → min (one a) (one b) ≡ one (a && b)
 one-and true true = refl
@@ -52,10 +51,6 @@ module _ {w : ℕ} where
   pub tells-same : {p : ℕ} {f g : ℕ → Bool} → ((i : ℕ) → i < 64 → f (w * 64 + i) ≡ g (w * 64 + i)) → Tells w p f → Tells w p g
   tells-same same hp = record { bits = λ i l. hp .bits i l ∙ ap one (same i l) }
 
--- a bit as a test's answer
-pub one-bit : (b : ℕ) → b < 2 → b ≡ one (eqb b 1)
-one-bit b l = elim (same-or-other b 1) [ inl e ↦ rw (eq-eqb b 1 e) e | inr d ↦ rw (ne-eqb b 1 d) (omega arith) ]
-
 -- one set's answer
 is-one : (a : Bool) → eqb (one a) 1 ≡ a
 is-one true = refl
@@ -77,30 +72,36 @@ module _ {w : ℕ} where
       → TellsValues w (record { positives = bitOr (l .positives) (r .positives); negatives = bitAnd (l .negatives) (r .negatives) }) (λ set. either (u set) (v set))
   tells-either h k = record { positives = record { bits = tells-or (h .positives) (k .positives) .bits }; negatives = record { bits = tells-and (h .negatives) (k .negatives) .bits } }
 
--- the two values of a literal, from "the action is finished" and "an undo of it is"
-positive-of : (f z : Bool) → f && not (not z) ≡ f && z
-positive-of f true = refl
-positive-of f false = refl
+-- the two values of a literal, from "the action is finished" and how many undos of it are
+positive-of : (f : Bool) (n : ℕ) → f && not (leb 1 n) ≡ literalOf f n .positive
+positive-of f zero = refl
+positive-of f (suc n) = rw (le-leb 1 (suc n) (omega arith), ne-eqb (suc n) 0 (λ e. omega arith))
 
-negative-of : (f z : Bool) → (f && not z) || not (f || not z) ≡ (not f && z) || (f && not z)
-negative-of true true = refl
-negative-of true false = refl
-negative-of false true = refl
-negative-of false false = refl
+negative-of : (f : Bool) (n : ℕ) → ((f && leb 1 n) && not (leb 2 n)) || not (f || leb 1 n) ≡ literalOf f n .negative
+negative-of true zero = refl
+negative-of false zero = refl
+negative-of true (suc zero) = refl
+negative-of false (suc zero) = refl
+negative-of true (suc (suc n)) = rw (le-leb 1 (suc (suc n)) (omega arith), le-leb 2 (suc (suc n)) (omega arith), ne-eqb (suc (suc n)) 1 (λ e. omega arith))
+negative-of false (suc (suc n)) = rw (le-leb 1 (suc (suc n)) (omega arith), ne-eqb (suc (suc n)) 0 (λ e. omega arith))
 
-module _ (pairs masks : List ℕ) (m : Masks pairs masks) (w a : ℕ) (byte : a < 256) (small : w < 2 ^ 32) (p q : ℕ) (fp : p < 2 ^ 64) (fq : q < 2 ^ 64)
-    (acts : Tells w p (λ set. finished set a)) (undone : Tells w q (λ set. meets set (getD masks a 0))) where
-  undone-at : (i : ℕ) → i < 64 → meets (w * 64 + i) (getD masks a 0) ≡ not (eqb (undosFinished pairs (w * 64 + i) a) 0)
-  undone-at i l = meets-mask (w * 64 + i) (omega arith) pairs masks m a byte
+module _ (pairs masks : List ℕ) (m : Masks pairs masks) (w a : ℕ) (byte : a < 256) (small : w < 2 ^ 32) (p : ℕ) (q : Met)
+    (fp : p < 2 ^ 64) (fs : q .some < 2 ^ 64) (fm : q .more < 2 ^ 64)
+    (acts : Tells w p (λ set. finished set a)) (undone : TellsNumber w q (λ set. shared set (getD masks a 0))) where
+  undos-at : (i : ℕ) → i < 64 → shared (w * 64 + i) (getD masks a 0) ≡ undosFinished pairs (w * 64 + i) a
+  undos-at i l = shared-mask (w * 64 + i) (omega arith) pairs masks m a byte
 
-  pub literal-told : TellsValues w (record { positives = bitAnd p (2 ^ 64 - 1 - q); negatives = bitOr (bitAnd p q) (2 ^ 64 - 1 - bitOr p q) }) (λ set. literal pairs set a)
+  pub literal-told : TellsValues w (record {
+    positives = bitAnd p (2 ^ 64 - 1 - q .some);
+    negatives = bitOr (bitAnd (bitAnd p (q .some)) (2 ^ 64 - 1 - q .more)) (2 ^ 64 - 1 - bitOr p (q .some));
+  }) (λ set. literal pairs set a)
   literal-told = record {
     positives =
         tells-same
-        (λ i l. ap (λ (u : Bool). finished (w * 64 + i) a && not u) (undone-at i l) ∙ positive-of (finished (w * 64 + i) a) (eqb (undosFinished pairs (w * 64 + i) a) 0))
-        (tells-and acts (tells-not fq undone));
+        (λ i l. rw (undos-at i l) (positive-of (finished (w * 64 + i) a) (undosFinished pairs (w * 64 + i) a)))
+        (tells-and acts (tells-not fs (undone .some)));
     negatives =
         tells-same
-        (λ i l. ap (λ (u : Bool). (finished (w * 64 + i) a && u) || not (finished (w * 64 + i) a || u)) (undone-at i l) ∙ negative-of (finished (w * 64 + i) a) (eqb (undosFinished pairs (w * 64 + i) a) 0))
-        (tells-or (tells-and acts undone) (tells-not (or-lt 64 p q fp fq) (tells-or acts undone)));
+        (λ i l. rw (undos-at i l) (negative-of (finished (w * 64 + i) a) (undosFinished pairs (w * 64 + i) a)))
+        (tells-or (tells-and (tells-and acts (undone .some)) (tells-not fm (undone .more))) (tells-not (or-lt 64 p (q .some) fp fs) (tells-or acts (undone .some))));
   }

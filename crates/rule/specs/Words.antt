@@ -1,25 +1,30 @@
 -- 64 sets at a time: bit i of a word speaks of the set 64 w + i.
 use mathlib.Core.Path.{_≡_}
-use mathlib.Core.Bool.{Bool, not}
+use mathlib.Core.Bool.{Bool}
 use mathlib.Core.List.{List}
 use Prim.Native.Nat.{ℕ, _+_, _-_, _*_, _%_, _≤_, _<_}
-use lib.Bits.{bitAnd}
-use lib.Dec.{eqb}
+use lib.Dec.{leb}
 use lib.ListN.{length, getD}
-use Rattle.blocks.specs.Bounded.{one}
+use Rattle.blocks.specs.Bounded.{total, one}
 use Rattle.family.specs.Family.{bitAt}
 use Rattle.meaning.specs.declared.Value.{Value}
 use Rattle.meaning.specs.Value.{places, neither, step}
+use Rattle.rule.specs.declared.Met.{Met}
 use Rattle.rule.specs.declared.Values.{Values}
 use Rattle.undos.specs.Masks.{Masks}
 
--- The set has an action of the mask.
-abbrev pub meets : ℕ → ℕ → Bool
-meets set mask = not (eqb (bitAnd set mask) 0)
+-- How many actions of the mask the set has.
+unfoldable pub shared : ℕ → ℕ → ℕ
+shared set mask = total 64 (λ a. bitAt set a * bitAt mask a)
 
 -- The word tells the answer of the test at each of its sets.
 pub record Tells (w r : ℕ) (test : ℕ → Bool) : Type 0 where
   pub bits : (i : ℕ) → i < 64 → bitAt r i ≡ one (test (w * 64 + i))
+
+-- The two words tell where a number is one or more, and where it is more than one.
+pub record TellsNumber (w : ℕ) (r : Met) (number : ℕ → ℕ) : Type 0 where
+  pub some : Tells w (r .some) (λ set. leb 1 (number set))
+  pub more : Tells w (r .more) (λ set. leb 2 (number set))
 
 -- The two words tell the two values that a part has at each of the sets.
 pub record TellsValues (w : ℕ) (r : Values) (v : ℕ → Value) : Type 0 where

@@ -7,7 +7,7 @@ ghost use lib.ListN.{set};
 ghost use Rattle.meaning.specs.Literal.{literal};
 ghost use Rattle.meaning.specs.Value.{satisfies};
 ghost use Rattle.undos.specs.Masks.{Masks};
-ghost use Rattle.rule.specs.Words.{meets, Tells, TellsValues, Stepped};
+ghost use Rattle.rule.specs.Words.{shared, Tells, TellsNumber, TellsValues, Stepped};
 
 // The two values of a part of the rule at the sets of a word.
 struct Values {
@@ -15,18 +15,27 @@ struct Values {
     pub negatives: u64,
 }
 
-// The sets of word w that have an action of the mask, action by action.
-fn meeting(mask: u64, w: u32) -> u64
-    ensures { λ r. ⌜ Tells w r (λ set. meets set mask) ⌝ }
+// The sets of a word that have some action of a mask, and those that have more than one.
+struct Met {
+    pub some: u64,
+    pub more: u64,
+}
+
+// The sets of word w that have some action of the mask, and more than one, action by action.
+fn meeting(mask: u64, w: u32) -> Met
+    ensures { λ r. ⌜ TellsNumber w r (λ set. shared set mask) ⌝ }
 {
-    let mut sets = 0;
+    let mut some = 0;
+    let mut more = 0;
     let mut rest = mask;
     while rest != 0 {
         let action = u64::trailing_zeros(rest) as usize;
-        sets = sets | family::having(action, w as usize);
+        let sets = family::having(action, w as usize);
+        more = more | (some & sets);
+        some = some | sets;
         rest = rest & (rest - 1);
     }
-    sets
+    Met { some, more }
 }
 
 // The two values of the action.
@@ -36,9 +45,11 @@ fn literal_of(masks: &[u64; 256], action: u8, w: u32) -> Values
     let at = blocks::wide(action);
     let finished = family::having(at, w as usize);
     let undone = meeting(masks[at], w);
+    let some = undone.some;
+    let more = undone.more;
     Values {
-        positives: finished & !undone,
-        negatives: (finished & undone) | !(finished | undone),
+        positives: finished & !some,
+        negatives: (finished & some & !more) | !(finished | some),
     }
 }
 

@@ -108,9 +108,9 @@ fn start(file: &[u8]) {
     }
 }
 
-// The largest plan file has 360 bytes, and a longer one is refused by the same number as its first 361 bytes.
+// A file that is longer than the largest plan file is refused by the number of its first MOST_BYTES + 1 bytes.
 fn open(path: &[u8]) {
-    let mut file = [0u8; 361];
+    let mut file = [0u8; plan::MOST_BYTES + 1];
     let got = input::fill_from(path, &mut file);
     if got.failed {
         os::fail(path);

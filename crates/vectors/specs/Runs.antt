@@ -6,6 +6,7 @@ use Prim.Native.Nat.{ℕ, zero, suc, _+_, _-_, _/_, _%_}
 use lib.Dec.{leb, eqb}
 use lib.ListN.{length, getD, take, drop}
 use Rattle.blocks.specs.Block.{le16}
+use Rattle.plan.specs.PlanFile.{mostBytes}
 use Rattle.state.specs.declared.Entry.{Entry}
 use Rattle.job.specs.Job.{startOf, takeOf}
 use Rattle.job.specs.declared.Answer.{Answer}
@@ -58,10 +59,19 @@ sessionOutcome s = cond (leb (le16 s 1 + 13) (length s)) (startOutcome s (le16 s
 
 -- A job that is made up: the area of its file at 1, its length, the area of its record, the number of its entries, and steps.
 abbrev pub jobAt : List ℕ → Job
-jobAt s = record { file = take 360 (drop 1 s); «file_len» = numberAt s 361; entries = take 126 (drop 369 s); taken = numberAt s 495 }
+jobAt s = record {
+  file = take mostBytes (drop 1 s);
+  «file_len» = numberAt s (mostBytes + 1);
+  entries = take 126 (drop (mostBytes + 9) s);
+  taken = numberAt s (mostBytes + 135);
+}
+
+-- where its steps begin
+abbrev pub stepsAt : ℕ
+stepsAt = mostBytes + 143
 
 unfoldable pub madeUpOutcome : List ℕ → Outcome
-madeUpOutcome s = cond (leb 503 (length s)) (stepsOutcome (jobAt s) s 503 0) Damaged
+madeUpOutcome s = cond (leb stepsAt (length s)) (stepsOutcome (jobAt s) s stepsAt 0) Damaged
 
 -- The first byte says which of the two the body is.
 abbrev pub runsOutcome : List ℕ → Outcome

@@ -5,7 +5,7 @@
 ghost use mathlib.Core.Path.{_≡_};
 ghost use Prim.Native.Nat.{_+_, _*_, _≤_};
 ghost use lib.ListN.{length};
-ghost use Rattle.vectors.specs.Runs.{agreesAt, stepped, agreeing, stepsOutcome, startOutcome, sessionOutcome, jobAt, madeUpOutcome, runsOutcome};
+ghost use Rattle.vectors.specs.Runs.{agreesAt, stepped, agreeing, stepsOutcome, startOutcome, sessionOutcome, jobAt, stepsAt, madeUpOutcome, runsOutcome};
 use crate::outcome::Outcome;
 use crate::outcome::held;
 use fields::answer::is_answer;
@@ -110,30 +110,39 @@ fn session(s: &[u8]) -> Outcome
     started(s, n)
 }
 
+// Where the parts of a made-up job stand, after its first byte and the area of its plan file, and its steps.
+const LENGTH_AT: usize = plan::MOST_BYTES + 1;
+
+const RECORD_AT: usize = LENGTH_AT + 8;
+
+const TAKEN_AT: usize = RECORD_AT + 126;
+
+const STEPS_AT: usize = TAKEN_AT + 8;
+
 // The job whose bytes stand after the first.
 fn job_at(s: &[u8]) -> Job
-    requires { ⌜ 503 ≤ length (now s) ⌝ }
+    requires { ⌜ stepsAt ≤ length (now s) ⌝ }
     ensures { λ r. ⌜ r ≡ jobAt (now (s .entry)) ⌝ }
 {
-    let mut file = [0u8; 360];
+    let mut file = [0u8; plan::MOST_BYTES];
     let mut entries = [0u8; 126];
-    blocks::copy(&mut file, 0, &s[1..361]);
-    blocks::copy(&mut entries, 0, &s[369..495]);
+    blocks::copy(&mut file, 0, &s[1..LENGTH_AT]);
+    blocks::copy(&mut entries, 0, &s[RECORD_AT..TAKEN_AT]);
     Job {
         file,
-        file_len: number_at(s, 361) as usize,
+        file_len: number_at(s, LENGTH_AT) as usize,
         entries,
-        taken: number_at(s, 495) as usize,
+        taken: number_at(s, TAKEN_AT) as usize,
     }
 }
 
 fn made_up(s: &[u8]) -> Outcome
     ensures { λ r. ⌜ r ≡ madeUpOutcome (now (s .entry)) ⌝ }
 {
-    if s.len() < 503 {
+    if s.len() < STEPS_AT {
         return Outcome::Damaged;
     }
-    continued(job_at(s), s, 503, 0)
+    continued(job_at(s), s, STEPS_AT, 0)
 }
 
 pub fn compare(body: &[u8]) -> Outcome

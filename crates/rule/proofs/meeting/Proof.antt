@@ -1,4 +1,4 @@
--- `rule::meeting` meets its contract: the sets gathered have one of the actions passed.
+-- `rule::meeting` meets its contract: the sets gathered have one of the actions passed, and more than one.
 use Prim.Native.Nat.{_-_, _^_, _<_}
 use native.Mathlib.Omega.{arith}
 use lib.Bits.{and-le-l, and-le-r}
@@ -9,10 +9,10 @@ use Rattle.rule.proofs.meeting.Statement.{statement}
 use Rattle.rule.proofs.meeting.Tie as tie
 
 abbrev Inv-loop : tie.InvT-loop
-Inv-loop mask w sets₀ rest₀ sets rest = (rest < 2 ^ 64) × Gathered mask w sets rest
+Inv-loop mask w some₀ more₀ rest₀ some more rest = (rest < 2 ^ 64) × Gathered mask w some more rest
 
 abbrev μ-loop : tie.MeasureT-loop
-μ-loop mask w sets₀ rest₀ sets rest = rest
+μ-loop mask w some₀ more₀ rest₀ some more rest = rest
 
 loop-holds : tie.Need-loop-holds Inv-loop μ-loop
 loop-holds c = (search needs, gathered-none)
@@ -37,7 +37,7 @@ loop-again c =
     (omega (arith, and-le-l (l .rest) (l .rest - 1)), gathered-more (l .inv .1) (l .inv .0) (c .before .loop-test .taken) (c .having .ensures))
 
 returns : tie.Need-returns Inv-loop μ-loop
-returns c = gathered-all (c .before .loop .inv .1) (search needs) (c .loop-test .left)
+returns c = gathered-all (c .before .loop .inv .1) (c .loop-test .left)
 
 pub meeting-spec : {M : Type 1} → statement M
 meeting-spec =

@@ -6,6 +6,7 @@ use lib.ListN.{length}
 use lib.Seq.{length-take-le}
 use borrow.Author.Needs.{needs}
 use borrow.Author.Tests.{not-true, not-false}
+use Rattle.plan.specs.PlanFile.{mostBytes}
 use Rattle.job.specs.Job.{tidy}
 use Rattle.job.proofs.Tidy.{tidy-says}
 use Rattle.job.proofs.Job.take.Statement.{statement}
@@ -27,13 +28,13 @@ passed c = sym (c .before .is-tidy .ensures) ∙ not-false _ (c .if1 .left)
 array-share-prefix-file : tie.Need-array-share-prefix-file
 array-share-prefix-file c =
     let j = c .before .before .before .args .self in
-    let long : length (j .file) ≡ 360 = search needs in
+    let long : length (j .file) ≡ mostBytes = search needs in
     omega (arith, tidy-says j (passed (c .before)) .file-fits)
 
 slice-aggregate-take-in : tie.Need-slice-aggregate-take-in
 slice-aggregate-take-in c =
     let j = c .before .before .before .before .args .self in
-    let long : length (j .file) ≡ 360 = search needs in
+    let long : length (j .file) ≡ mostBytes = search needs in
     sym (length-take-le (j .«file_len») (j .file) (omega (arith, tidy-says j (passed (c .before .before)) .file-fits)))
 
 take-in-requires : tie.Need-take-in-requires

@@ -1,11 +1,12 @@
 -- `vectors::runs::job_at` meets its contract: each area is copied whole into zeros.
 use mathlib.Core.List.{List, append-nil}
 use mathlib.Core.Path.{_≡_, _∙_}
-use Prim.Native.Nat.{ℕ, _-_}
+use Prim.Native.Nat.{ℕ, _+_, _-_}
 use native.Mathlib.Omega.{arith}
 use lib.ListN.{length, take, drop, replicate, length-drop}
 use lib.Seq.{length-take-le}
 use Rattle.blocks.specs.Area.{written}
+use Rattle.plan.specs.PlanFile.{mostBytes}
 use Rattle.job.proofs.Bytes.{padded}
 use borrow.Author.Needs.{needs}
 use Rattle.vectors.proofs.runs.job_at.Statement.{statement}
@@ -59,9 +60,9 @@ returns c =
     let m = k .before .before .before .before in
     let start = m .before .before .before .before in
     let s = start .args .s .now in
-    let file : length (take 360 (drop 1 s)) ≡ 360 = length-take-le 360 (drop 1 s) (simp length-drop (omega (arith, start .pre))) in
-    let entries : length (take 126 (drop 369 s)) ≡ 126 = length-take-le 126 (drop 369 s) (simp length-drop (omega (arith, start .pre))) in
-    rw (m .copy .ensures .1 ∙ over 360 (take 360 (drop 1 s)) file, c .before .number-at .ensures, k .copy2 .ensures .1 ∙ over 126 (take 126 (drop 369 s)) entries, c .number-at2 .ensures)
+    let file : length (take mostBytes (drop 1 s)) ≡ mostBytes = length-take-le mostBytes (drop 1 s) (simp length-drop (omega (arith, start .pre))) in
+    let entries : length (take 126 (drop (mostBytes + 9) s)) ≡ 126 = length-take-le 126 (drop (mostBytes + 9) s) (simp length-drop (omega (arith, start .pre))) in
+    rw (m .copy .ensures .1 ∙ over mostBytes (take mostBytes (drop 1 s)) file, c .before .number-at .ensures, k .copy2 .ensures .1 ∙ over 126 (take 126 (drop (mostBytes + 9) s)) entries, c .number-at2 .ensures)
 
 pub job-at-spec : {M : Type 1} → statement M
 job-at-spec =
