@@ -1,7 +1,7 @@
 -- The laws of `every` and `total`: what a loop over the numbers below a bound shows of them turn by turn, and what they say of each
 -- number. All by induction on the bound.
-use mathlib.Core.Path.{_≡_, refl, sym, _∙_}
-use mathlib.Core.Bool.{Bool, true, false, true≢false, cond}
+use mathlib.Core.Path.{_≡_, refl, sym, ap, _∙_}
+use mathlib.Core.Bool.{Bool, true, false, true≢false, _&&_, cond}
 use mathlib.Core.Logic.{_⊎_, inl, inr}
 use Prim.Native.Nat.{ℕ, zero, suc, _+_, _≤_, _<_}
 use native.Mathlib.Numerals.{add-one}
@@ -20,6 +20,11 @@ decide false = inr refl
 pub both-true : (a b : Bool) → cond a b false ≡ true → (a ≡ true) × (b ≡ true)
 both-true true b e = (refl, e)
 both-true false b e = absurd (true≢false (sym e))
+
+-- so are both parts of a conjunction
+pub both-hold : (a b : Bool) → a && b ≡ true → (a ≡ true) × (b ≡ true)
+both-hold true b e = (refl, e)
+both-hold false b e = absurd (true≢false (sym e))
 
 -- the last number below n + 1, or one below n
 last : (n i : ℕ) → i < suc n → (i ≡ n) ⊎ (i < n)
@@ -144,6 +149,29 @@ total-but g h (suc n) k l same = go (λ m. total-but g h n k m (λ i j d. same i
     go : (k < n → total n g + h k ≡ total n h + g k) → (k ≡ n) ⊎ (k < n) → g n + total n g + h k ≡ h n + total n h + g k
     go rest (inl e) = rw e (omega (arith, total-same g h n (λ i j. same i (omega arith) (λ z. omega arith))))
     go rest (inr m) = omega (arith, rest m, same n (omega arith) (λ z. omega arith))
+
+-- a sum of sums
+pub total-sum : (g h : ℕ → ℕ) (n : ℕ) → total n (λ i. g i + h i) ≡ total n g + total n h
+unfolding total
+total-sum g h zero = refl
+total-sum g h (suc n) = omega (arith, total-sum g h n)
+
+-- the order of two sums
+pub total-exchanged : (g : ℕ → ℕ → ℕ) (m n : ℕ) → total n (λ j. total m (λ i. g i j)) ≡ total m (λ i. total n (g i))
+unfolding total
+total-exchanged g zero n = total-none (λ j. 0) n (λ j l. refl)
+total-exchanged g (suc m) n = total-sum (g m) (λ j. total m (λ i. g i j)) n ∙ ap (λ (k : ℕ). total n (g m) + k) (total-exchanged g m n)
+
+-- a sum of smaller terms
+pub total-below : (g h : ℕ → ℕ) (n : ℕ) → ((i : ℕ) → i < n → g i ≤ h i) → total n g ≤ total n h
+unfolding total
+total-below g h zero le = omega arith
+total-below g h (suc n) le = omega (arith, le n (omega arith), total-below g h n (λ i l. le i (omega arith)))
+
+-- what is counted holds
+pub one-holds : (t : Bool) → 0 < one t → t ≡ true
+one-holds true h = refl
+one-holds false h = absurd (omega arith)
 
 pub one-most : (t : Bool) → one t ≤ 1
 one-most true = omega arith

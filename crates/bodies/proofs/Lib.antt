@@ -1,3 +1,4 @@
 pub mod TypesPairs
+pub mod Most
 pub mod Scan
 pub mod Postfix

@@ -9,7 +9,7 @@ use lib.Dec.{eqb}
 use lib.ListN.{length, getD}
 use borrow.Author.Tests.{leb-true, le-leb, ltb-true, lt-ltb, eqb-true, eqb-false, ne-eqb}
 use Rattle.blocks.specs.Bounded.{every, one}
-use Rattle.blocks.proofs.Bounded.{both-true, every-at, every-all, total-some}
+use Rattle.blocks.proofs.Bounded.{both-true, every-at, every-all, total-some, one-holds}
 use Rattle.bodies.specs.Types.{Types, isType, typesOk}
 use Rattle.bodies.specs.Pairs.{pairCount, first, second, pairsOf, Pairs, apartOk, pairOk, pairsOk}
 
@@ -44,11 +44,6 @@ apart-says i fi si j fj sj = (to (eqb fi sj) (eqb i j) (eqb fi fj) (eqb si sj) r
     from : (fi ≡ sj → ⊥) × (fi ≡ fj → si ≡ sj → i ≡ j) → apartOk i fi si j fj sj ≡ true
     from h = rw (ne-eqb fi sj (h .0)) (same (eqb i j) (eqb fi fj) refl refl (h .1))
 
--- what is counted is there
-counted : (t : Bool) → 0 < one t → t ≡ true
-counted true h = refl
-counted false h = absurd (omega arith)
-
 module _ (actions : ℕ) (b : List ℕ) where
   beside : ℕ → ℕ → Bool
   beside i j = apartOk i (first b i) (second b i) j (first b j) (second b j)
@@ -62,7 +57,7 @@ module _ (actions : ℕ) (b : List ℕ) where
       go false e =
           let k = eqb-false (pairsOf b a) 0 e in
           let (i, l, m) = total-some (λ i. one (eqb (first b i) a)) (pairCount b) (omega arith) in
-          rw (eqb-true (first b i) a (counted (eqb (first b i) a) m)) at (h i l)
+          rw (eqb-true (first b i) a (one-holds (eqb (first b i) a) m)) at (h i l)
 
   pub pairs-say : (pairsOk actions b ≡ true) ↔ Pairs actions b
   unfolding beside

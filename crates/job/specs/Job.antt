@@ -6,7 +6,7 @@ use Prim.Native.Nat.{ℕ, _+_, _-_, _*_}
 use lib.Dec.{leb, ltb, eqb}
 use lib.ListN.{length, getD, set, take, replicate}
 use Rattle.blocks.specs.Bounded.{every}
-use Rattle.plan.specs.PlanFile.{mostBytes}
+use Rattle.plan.specs.PlanFile.{mostActions, mostBytes}
 use Rattle.plan.specs.Reading.{nodeLimit, ruleLimit, bytesOf, readOf}
 use Rattle.plan.specs.declared.Layout.{Layout}
 use Rattle.plan.specs.declared.Reading.{Reading}
@@ -102,4 +102,4 @@ takeOf j e = cond (tidy j) (takeOn j e (readOf (planOf j))) (refusal 11 j)
 
 -- "the limits 10, 63 and 127"
 abbrev pub limits : Limits
-limits = record { actions = 10; nodes = nodeLimit; rule = ruleLimit }
+limits = record { actions = mostActions; nodes = nodeLimit; rule = ruleLimit }

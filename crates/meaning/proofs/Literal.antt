@@ -9,7 +9,7 @@ use native.Mathlib.Omega.{arith}
 use lib.Dec.{eqb}
 use borrow.Author.Tests.{eq-eqb, ne-eqb, eqb-true, not-true, not-false}
 use Rattle.blocks.specs.Bounded.{total, one}
-use Rattle.blocks.proofs.Bounded.{decide, every-all, every-missed, total-has, total-two, total-none, total-single, total-same}
+use Rattle.blocks.proofs.Bounded.{decide, both-hold, every-all, every-missed, total-has, total-two, total-none, total-single, total-same}
 use Rattle.bodies.specs.Pairs.{Pairs, pairCount, first, second}
 use Rattle.meaning.specs.Literal.{finished, undoneBy, isPair, isNew, undosFinished, literalOf, literal}
 use Rattle.meaning.specs.Value.{neither}
@@ -32,10 +32,6 @@ by-two-undos false n l = rw (ne-eqb n 0 (λ e. omega arith))
 by-undo-alone : (n : ℕ) → 1 ≤ n → literalOf false n ≡ neither
 by-undo-alone n l = rw (ne-eqb n 0 (λ e. omega arith))
 
-both-parts : (a b : Bool) → a && b ≡ true → (a ≡ true) × (b ≡ true)
-both-parts true b e = (refl, e)
-both-parts false b e = absurd (true≢false (sym e))
-
 and-true : (b : Bool) → b && true ≡ b
 and-true true = refl
 and-true false = refl
@@ -48,7 +44,7 @@ module _ (pairs : List ℕ) where
 
   is-same : (i j : ℕ) → isPair pairs (first pairs i) (second pairs i) j ≡ true → Same i j
   is-same i j e =
-      let (f, s) = both-parts _ _ e in
+      let (f, s) = both-hold _ _ e in
       record { firsts = eqb-true _ _ f; seconds = eqb-true _ _ s }
 
   -- a pair is new where none before it is the same

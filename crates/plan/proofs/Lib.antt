@@ -8,5 +8,6 @@ pub mod Exactly
 pub mod Prefix
 pub mod Tree
 pub mod InBlocks
+pub mod Largest
 pub mod Demand1
 pub mod Inside

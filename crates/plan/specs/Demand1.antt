@@ -3,11 +3,12 @@
 use mathlib.Core.Path.{_≡_}
 use mathlib.Core.List.{List, _++_}
 use mathlib.Core.Logic.{_↔_}
-use Prim.Native.Nat.{ℕ, _+_, _-_, _≤_, _<_}
+use Prim.Native.Nat.{ℕ, _+_, _-_, _*_, _≤_, _<_}
 use lib.ListN.{length, take}
 use Rattle.process.specs.Leaves.{AsWritten, HasLeaf, Distinct}
 use Rattle.process.specs.Depth.{Flat}
 use Rattle.blocks.specs.Block.{block}
+use Rattle.bodies.specs.Pairs.{Pairs, pairCount}
 use Rattle.nodes.specs.Nodes.{count, form, Under}
 use Rattle.plan.specs.PlanFile.{mostActions, mostPairs, mostBytes, Bytes, Bodies, PlanFile}
 use Rattle.plan.specs.Refusals.{Broken}
@@ -51,11 +52,15 @@ pub record Demand1 : Type 0 where
       → ((l : Layout) × (readWithin actionLimit pairLimit s ≡ Accepted l)) ↔ PlanFile actionLimit pairLimit s
   pub refuses-within : (actionLimit pairLimit : ℕ) → actionLimit ≤ 128 → (s : List ℕ) → Bytes s → (n : ℕ)
       → (readWithin actionLimit pairLimit s ≡ Refused n) ↔ Broken actionLimit pairLimit s n
+  -- the limit of pairs that goes with a limit of actions, 21 with ten and 63 with 24, turns away no pairs that keep the pair rule
+  pub most-pairs : (actionLimit actions : ℕ) (pairs : List ℕ) → 5 ≤ actionLimit → actions ≤ actionLimit → Pairs actions pairs
+      → pairCount pairs ≤ 3 * (actionLimit - 3)
   -- the bodies of an accepted file are those of its blocks, and hold what document 01 permits
   pub blocks : (s : List ℕ) → Bytes s → (l : Layout) → readOf s ≡ Accepted l → InBlocks s l
   pub holds : (s : List ℕ) (l : Layout) → readOf s ≡ Accepted l → Holds mostActions mostPairs s l
-  -- an accepted file is at most as long as the largest, and its bodies lie in a row
+  -- an accepted file is at most as long as the largest, some file is as long, and the bodies lie in a row
   pub most : (s : List ℕ) (l : Layout) → readOf s ≡ Accepted l → length s ≤ mostBytes
+  pub largest : (s : List ℕ) × (l : Layout) × (length s ≡ mostBytes) × (readOf s ≡ Accepted l)
   pub row : (s : List ℕ) (l : Layout) → readOf s ≡ Accepted l → InARow s l
   -- its nodes draw one tree
   pub tree : (s : List ℕ) (l : Layout) → readOf s ≡ Accepted l → Drawn (bytesOf s (l .types)) (bytesOf s (l .nodes))
