@@ -124,16 +124,6 @@ module _ (g : ℕ → ℕ) where
   total-none zero h = refl
   total-none (suc n) h = omega (arith, h n (omega arith), total-none n (λ i l. h i (omega arith)))
 
-  -- a sum with one term that is not 0
-  pub total-single : (n k : ℕ) → k < n → ((i : ℕ) → i < n → (i ≡ k → ⊥) → g i ≡ 0) → total n g ≡ g k
-  unfolding total
-  total-single zero k l h = absurd (not-suc-le-zero l)
-  total-single (suc n) k l h = go (λ m. total-single n k m (λ i j d. h i (omega arith) d)) (last n k l)
-    where
-      go : (k < n → total n g ≡ g k) → (k ≡ n) ⊎ (k < n) → g n + total n g ≡ g k
-      go rest (inl e) = rw e (omega (arith, total-none n (λ i j. h i (omega arith) (λ z. omega arith))))
-      go rest (inr m) = omega (arith, rest m, h n (omega arith) (λ z. omega arith))
-
 -- two sums whose terms are the same
 pub total-same : (g h : ℕ → ℕ) (n : ℕ) → ((i : ℕ) → i < n → g i ≡ h i) → total n g ≡ total n h
 unfolding total
@@ -149,6 +139,10 @@ total-but g h (suc n) k l same = go (λ m. total-but g h n k m (λ i j d. same i
     go : (k < n → total n g + h k ≡ total n h + g k) → (k ≡ n) ⊎ (k < n) → g n + total n g + h k ≡ h n + total n h + g k
     go rest (inl e) = rw e (omega (arith, total-same g h n (λ i j. same i (omega arith) (λ z. omega arith))))
     go rest (inr m) = omega (arith, rest m, same n (omega arith) (λ z. omega arith))
+
+-- a sum with one term that is not 0
+pub total-single : (g : ℕ → ℕ) (n k : ℕ) → k < n → ((i : ℕ) → i < n → (i ≡ k → ⊥) → g i ≡ 0) → total n g ≡ g k
+total-single g n k l others = omega (arith, total-but g (λ i. 0) n k l others, total-none (λ i. 0) n (λ i h. refl))
 
 -- a sum of sums
 pub total-sum : (g h : ℕ → ℕ) (n : ℕ) → total n (λ i. g i + h i) ≡ total n g + total n h

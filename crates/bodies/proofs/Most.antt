@@ -11,7 +11,7 @@ use lib.Dec.{eqb}
 use borrow.Author.Tests.{eq-eqb, ne-eqb, eqb-true, eqb-false}
 use Rattle.blocks.specs.Bounded.{total, one}
 use Rattle.blocks.proofs.Bounded.{decide, both-hold, total-some, total-none, total-single, total-same, total-sum, total-exchanged, total-below, one-holds, one-most}
-use Rattle.bodies.specs.Pairs.{Pairs, pairCount, first, second, pairsOf}
+use Rattle.bodies.specs.Pairs.{Pairs, pairCount, first, second, isPair, pairsOf}
 
 total-ones : (n : ℕ) → total n (λ i. 1) ≡ n
 unfolding total
@@ -54,44 +54,38 @@ module _ (actions : ℕ) (b : List ℕ) (p : Pairs actions b) where
       ∙ total-ones (pairCount b)
 
   -- the pairs of a with the undo u: one at the most, and then u has no pairs
-  pair-of : ℕ → ℕ → ℕ → Bool
-  pair-of a u i = eqb (first b i) a && eqb (second b i) u
-
-  same-pair : (a u i j : ℕ) → i < pairCount b → j < pairCount b → pair-of a u i ≡ true → pair-of a u j ≡ true → i ≡ j
-  unfolding pair-of
+  same-pair : (a u i j : ℕ) → i < pairCount b → j < pairCount b → isPair b a u i ≡ true → isPair b a u j ≡ true → i ≡ j
   same-pair a u i j h k here there =
-      let (fi, si) = both-hold _ _ here in
-      let (fj, sj) = both-hold _ _ there in
+      let (fi, si) = both-hold (eqb (first b i) a) (eqb (second b i) u) here in
+      let (fj, sj) = both-hold (eqb (first b j) a) (eqb (second b j) u) there in
       p .different i j h k (eqb-true _ _ fi ∙ sym (eqb-true _ _ fj)) (eqb-true _ _ si ∙ sym (eqb-true _ _ sj))
 
-  no-pair : (a u i : ℕ) → i < pairCount b → pair-of a u i ≡ true → pairsOf b u ≡ 0
-  unfolding pair-of
+  no-pair : (a u i : ℕ) → i < pairCount b → isPair b a u i ≡ true → pairsOf b u ≡ 0
   no-pair a u i h here =
       let undo = eqb-true (second b i) u (both-hold (eqb (first b i) a) (eqb (second b i) u) here .1) in
       total-none (λ j. one (eqb (first b j) u)) (pairCount b) (λ j k. rw (ne-eqb (first b j) u (λ e. p .apart j i k h (e ∙ sym undo))))
 
-  one-pair : (a u : ℕ) → total (pairCount b) (λ i. one (pair-of a u i)) ≤ none u
+  one-pair : (a u : ℕ) → total (pairCount b) (λ i. one (isPair b a u i)) ≤ none u
   unfolding none
-  one-pair a u = elim (decide (eqb (total (pairCount b) (λ i. one (pair-of a u i))) 0)) [
-    | inl e ↦ omega (arith, eqb-true (total (pairCount b) (λ i. one (pair-of a u i))) 0 e)
+  one-pair a u = elim (decide (eqb (total (pairCount b) (λ i. one (isPair b a u i))) 0)) [
+    | inl e ↦ omega (arith, eqb-true (total (pairCount b) (λ i. one (isPair b a u i))) 0 e)
     | inr e ↦
-        let k = eqb-false (total (pairCount b) (λ i. one (pair-of a u i))) 0 e in
-        let (i, l, c) = total-some (λ i. one (pair-of a u i)) (pairCount b) (omega arith) in
-        let here = one-holds (pair-of a u i) c in
-        let single = total-single (λ i. one (pair-of a u i)) (pairCount b) i l (λ j m d. elim (decide (pair-of a u j)) [
+        let k = eqb-false (total (pairCount b) (λ i. one (isPair b a u i))) 0 e in
+        let (i, l, c) = total-some (λ i. one (isPair b a u i)) (pairCount b) (omega arith) in
+        let here = one-holds (isPair b a u i) c in
+        let single = total-single (λ i. one (isPair b a u i)) (pairCount b) i l (λ j m d. elim (decide (isPair b a u j)) [
           | inl t ↦ absurd (d (same-pair a u j i m l t here))
           | inr t ↦ rw t
         ]) in
-        rw (no-pair a u i l here) (omega (arith, single, one-most (pair-of a u i)))
+        rw (no-pair a u i l here) (omega (arith, single, one-most (isPair b a u i)))
   ]
 
   -- so no action has more pairs than there are actions without
   pairs-none : (a : ℕ) → pairsOf b a ≤ total actions none
-  unfolding pair-of
   pairs-none a =
-      let each = total-same (λ i. total actions (λ u. one (pair-of a u i))) (λ i. one (eqb (first b i) a)) (pairCount b) (λ i l. total-equal (second b i) actions (p .numbers i l .1) (eqb (first b i) a)) in
-      let at-most = total-below (λ u. total (pairCount b) (λ i. one (pair-of a u i))) none actions (λ u l. one-pair a u) in
-      omega (arith, each, total-exchanged (λ i u. one (pair-of a u i)) (pairCount b) actions, at-most)
+      let each = total-same (λ i. total actions (λ u. one (isPair b a u i))) (λ i. one (eqb (first b i) a)) (pairCount b) (λ i l. total-equal (second b i) actions (p .numbers i l .1) (eqb (first b i) a)) in
+      let at-most = total-below (λ u. total (pairCount b) (λ i. one (isPair b a u i))) none actions (λ u l. one-pair a u) in
+      omega (arith, each, total-exchanged (λ i u. one (isPair b a u i)) (pairCount b) actions, at-most)
 
   -- at most k for each action that has some
   pairs-times : (k : ℕ) → ((a : ℕ) → pairsOf b a ≤ k) → pairCount b ≤ k * total actions some

@@ -1,6 +1,6 @@
 -- Document 01, kind 2: undo pairs, "two bytes each, an action and its undo action", several of one action as document 02's N3 has it. Nothing here
 -- depends on how many actions or pairs a file may have.
-use mathlib.Core.Bool.{Bool, true, false, not, cond}
+use mathlib.Core.Bool.{Bool, true, false, not, _&&_, cond}
 use mathlib.Core.List.{List}
 use mathlib.Core.Path.{_≡_}
 use Prim.Native.Nat.{ℕ, _+_, _*_, _/_, _≤_, _<_}
@@ -17,6 +17,10 @@ first b i = getD b (2 * i) 0
 
 abbrev pub second : List ℕ → ℕ → ℕ
 second b i = getD b (2 * i + 1) 0
+
+-- pair i is of the action a and the undo u
+abbrev pub isPair : List ℕ → ℕ → ℕ → ℕ → Bool
+isPair b a u i = eqb (first b i) a && eqb (second b i) u
 
 -- how many pairs the action a is first in
 abbrev pub pairsOf : List ℕ → ℕ → ℕ

@@ -1,17 +1,17 @@
 -- The values of a literal, by how many of its undos are finished. The sum over the pairs has no term that is 1, one such term, or two. A pair that
 -- stands before adds nothing, and then the first one that is the same does.
 use mathlib.Core.Path.{_≡_, refl, sym, ap, _∙_}
-use mathlib.Core.Bool.{Bool, true, false, not, true≢false, _&&_}
+use mathlib.Core.Bool.{Bool, true, false, not, true≢false, _&&_, and-true}
 use mathlib.Core.List.{List}
 use mathlib.Core.Logic.{inl, inr}
 use Prim.Native.Nat.{ℕ, zero, suc, _≤_, _<_}
 use native.Mathlib.Omega.{arith}
 use lib.Dec.{eqb}
-use borrow.Author.Tests.{eq-eqb, ne-eqb, eqb-true, not-true, not-false}
+use borrow.Author.Tests.{eq-eqb, ne-eqb, eqb-true, not-false}
 use Rattle.blocks.specs.Bounded.{total, one}
 use Rattle.blocks.proofs.Bounded.{decide, both-hold, every-all, every-missed, total-has, total-two, total-none, total-single, total-same}
-use Rattle.bodies.specs.Pairs.{Pairs, pairCount, first, second}
-use Rattle.meaning.specs.Literal.{finished, undoneBy, isPair, isNew, undosFinished, literalOf, literal}
+use Rattle.bodies.specs.Pairs.{Pairs, pairCount, first, second, isPair}
+use Rattle.meaning.specs.Literal.{finished, undoneBy, isNew, undosFinished, literalOf, literal}
 use Rattle.meaning.specs.Value.{neither}
 use Rattle.meaning.specs.Laws.{paired, plain, so, notSo, NoneUndone, OnlyUndone, TwiceUndone}
 
@@ -31,10 +31,6 @@ by-two-undos false n l = rw (ne-eqb n 0 (λ e. omega arith))
 
 by-undo-alone : (n : ℕ) → 1 ≤ n → literalOf false n ≡ neither
 by-undo-alone n l = rw (ne-eqb n 0 (λ e. omega arith))
-
-and-true : (b : Bool) → b && true ≡ b
-and-true true = refl
-and-true false = refl
 
 module _ (pairs : List ℕ) where
   -- pairs i and j are the same
@@ -82,12 +78,7 @@ module _ (pairs : List ℕ) where
     term : ℕ → ℕ → ℕ
     term a i = one (undoneBy pairs set a i && isNew pairs i)
 
-    -- nothing, where it is a pair of another action
-    another : (a i : ℕ) → (first pairs i ≡ a → ⊥) → term a i ≡ 0
-    unfolding term
-    another a i other = simp (ne-eqb (first pairs i) a other)
-
-    -- or its undo is not finished
+    -- nothing, where it is a pair of another action or its undo is not finished
     unfinished : (a i : ℕ) → (first pairs i ≡ a → finished set (second pairs i) ≡ false) → term a i ≡ 0
     unfolding term
     unfinished a i off = elim (decide (eqb (first pairs i) a)) [
@@ -109,23 +100,21 @@ module _ (pairs : List ℕ) where
         total-same (λ i. one (undoneBy pairs set a i && isNew pairs i)) (λ i. one (undoneBy pairs set a i)) (pairCount pairs) (λ i l.
         rw (new i (λ j m s. let e = legal .different j i (omega arith) l (s .firsts) (s .seconds) in omega arith)) (ap one (and-true (undoneBy pairs set a i))))
 
-    pub without-undo : (a : ℕ) → ((i : ℕ) → i < pairCount pairs → first pairs i ≡ a → ⊥) → literal pairs set a ≡ plain (finished set a)
-    unfolding term
-    without-undo a none =
-        rw (total-none (term a) (pairCount pairs) (λ i h. another a i (none i h))) (by-no-undo (finished set a))
-
     pub with-undo : (i : ℕ) → i < pairCount pairs → ((j : ℕ) → j < pairCount pairs → first pairs j ≡ first pairs i → j ≡ i)
         → literal pairs set (first pairs i) ≡ paired (finished set (first pairs i)) (finished set (second pairs i))
     unfolding term
     with-undo i h only =
         let undos : undosFinished pairs set (first pairs i) ≡ one (finished set (second pairs i))
-        = total-single (term (first pairs i)) (pairCount pairs) i h (λ j k other. another (first pairs i) j (λ same. other (only j k same)))
+        = total-single (term (first pairs i)) (pairCount pairs) i h (λ j k other. unfinished (first pairs i) j (λ same. absurd (other (only j k same))))
         ∙ itself (first pairs i) i refl (new i (λ j m s. let e = only j (omega arith) (s .firsts) in omega arith)) in
         rw undos (by-one-undo (finished set (first pairs i)) (finished set (second pairs i)))
 
     none-undone : (a : ℕ) → NoneUndone pairs set a → literal pairs set a ≡ plain (finished set a)
     unfolding term
     none-undone a none = rw (total-none (term a) (pairCount pairs) (λ i h. unfinished a i (none i h))) (by-no-undo (finished set a))
+
+    pub without-undo : (a : ℕ) → ((i : ℕ) → i < pairCount pairs → first pairs i ≡ a → ⊥) → literal pairs set a ≡ plain (finished set a)
+    without-undo a no-pair = none-undone a (λ i h e. absurd (no-pair i h e))
 
     pub done : (a : ℕ) → finished set a ≡ true → NoneUndone pairs set a → literal pairs set a ≡ so
     done a on none = none-undone a none ∙ ap plain on

@@ -5,7 +5,7 @@ use mathlib.Core.List.{List}
 use Prim.Native.Nat.{ℕ, _/_, _%_, _^_}
 use lib.Dec.{eqb}
 use Rattle.blocks.specs.Bounded.{every, total, one}
-use Rattle.bodies.specs.Pairs.{pairCount, first, second}
+use Rattle.bodies.specs.Pairs.{pairCount, first, second, isPair}
 use Rattle.meaning.specs.declared.Value.{Value}
 
 -- "An action counts as finished where its bit is in the set."
@@ -15,10 +15,6 @@ finished set a = eqb (set / 2 ^ a % 2) 1
 -- Pair i is a pair of the action a, and its undo is finished.
 abbrev pub undoneBy : List ℕ → ℕ → ℕ → ℕ → Bool
 undoneBy pairs set a i = eqb (first pairs i) a && finished set (second pairs i)
-
--- Pair i is of the action a and the undo u.
-abbrev pub isPair : List ℕ → ℕ → ℕ → ℕ → Bool
-isPair pairs a u i = eqb (first pairs i) a && eqb (second pairs i) u
 
 -- Pair i does not stand before: an undo counts once. In a plan no pair stands twice.
 abbrev pub isNew : List ℕ → ℕ → Bool

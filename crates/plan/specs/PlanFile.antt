@@ -21,7 +21,7 @@ pub record Items (unit least most n : ℕ) : Type 0 where
   pub enough : least ≤ number
   pub few : number ≤ most
 
--- The limits of a plan file: document 01's "1 to 10 actions", N3's "up to 21 pairs", and the bytes that come to, "the largest file has 384".
+-- The limits of a plan file: document 01's "1 to 10 actions", N3's "up to 21 pairs", and the bytes that these come to: "the largest file has 384".
 abbrev pub mostActions : ℕ
 mostActions = 10
 

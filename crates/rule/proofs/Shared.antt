@@ -14,11 +14,11 @@ use lib.Pow.{pow-mono}
 use borrow.Author.Tests.{eq-eqb, ne-eqb, eqb-true, lt-ltb, le-ltb}
 use Rattle.blocks.specs.Bounded.{every, total, one}
 use Rattle.blocks.proofs.Bounded.{decide, total-none, total-but}
-use Rattle.bodies.specs.Pairs.{pairCount, first, second}
+use Rattle.bodies.specs.Pairs.{pairCount, first, second, isPair}
 use Rattle.family.specs.Family.{bitAt}
 use Rattle.family.proofs.Numbers.{same-or-other, below-or-above}
 use Rattle.family.proofs.Bits.{bit-or, bit-small, no-bit, own-bit, only-own-bit}
-use Rattle.meaning.specs.Literal.{finished, undoneBy, isPair, isNew, undosFinished}
+use Rattle.meaning.specs.Literal.{finished, undoneBy, isNew, undosFinished}
 use Rattle.undos.specs.Masks.{bit, undoBit, undosIn, Masks}
 use Rattle.rule.specs.Words.{shared}
 
