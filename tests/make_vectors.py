@@ -212,7 +212,12 @@ def edges_of_pairs():
 
 
 def edges_of_undos():
-    """three and four pairs with one first in all places among seven, and a fourth in each place among nineteen"""
+    """three and four pairs with one first: each action, in plans of up to ten; in all places among seven pairs; and a fourth in each place among nineteen"""
+    for actions in range(4, 11):
+        for a in range(actions):
+            undos = [u for u in range(actions) if u != a]
+            for count in (3, 4)[:actions - 3]:
+                yield f'{count} undos of {a}, {actions} actions', whole([1] * actions, [(a, u) for u in undos[:count]])
     for count in (3, 4):
         for places in itertools.combinations(range(7), count):
             firsts, undos = iter((1, 2, 3, 4)), iter((6, 7, 8, 9))
@@ -481,7 +486,7 @@ def write_programs(cells, write, of_course):
     write('crates/run/stdout', session_of(cells, SWALLOWED, session_by_hand()).encode())
     # of the examples for one number the last, which is a whole file
     own = {f'refused-{number}': file for _, number, file in examples_of_table() if number not in (None, 8)}
-    own |= {'largest': LARGEST, 'too-long': LARGEST + b'\0'}
+    own |= {'fourth-undo': whole([1] * 5, [(0, u) for u in range(1, 5)]), 'largest': LARGEST, 'too-long': LARGEST + b'\0'}
     for name, file in own.items():
         write(f'tests/files/{name}.plan', file)
     for name, words, reads, writes in stored_cases(cells, of_course, own):

@@ -77,7 +77,7 @@ def stored_cases(cells, of_course, own):
     files = {**of_course, **own}
     path = lambda name: f'{"tests/files" if name in own else "plans"}/{name}.plan'
 
-    for name, number in [(f'refused-{n}', n) for n in range(1, 10) if n != 8] + [('broken', 8), ('too-long', 1)]:
+    for name, number in [(f'refused-{n}', n) for n in range(1, 10) if n != 8] + [('broken', 8), ('fourth-undo', 5), ('too-long', 1)]:
         case = 'refused-8' if name == 'broken' else name
         if number_of(cells, files[name]) != number:
             sys.exit(f'{name}: the model does not say {number}')

@@ -90,10 +90,14 @@ module _ (g : ℕ → ℕ) where
   unfolding total
   total-more i = rw (add-one i)
 
-  pub total-has : (n i : ℕ) → i < n → g i ≤ total n g
+  -- a sum has a term and those before it
+  pub total-upto : (n i : ℕ) → i < n → g i + total i g ≤ total n g
   unfolding total
-  total-has zero i h = absurd (not-suc-le-zero h)
-  total-has (suc n) i h = elim (last n i h) [ inl e ↦ rw e (omega arith) | inr l ↦ omega (arith, total-has n i l) ]
+  total-upto zero i h = absurd (not-suc-le-zero h)
+  total-upto (suc n) i h = elim (last n i h) [ inl e ↦ rw e (omega arith) | inr l ↦ omega (arith, total-upto n i l) ]
+
+  pub total-has : (n i : ℕ) → i < n → g i ≤ total n g
+  total-has n i h = omega (arith, total-upto n i h)
 
   pub total-two : (n i j : ℕ) → i < n → j < n → (i ≡ j → ⊥) → g i + g j ≤ total n g
   unfolding total

@@ -1,5 +1,5 @@
--- How many pairs there can be: with up to n actions, n being 5 or more, at most three for each of n - 3. An action with k pairs has k undos, which are
--- first in no pair; so no action has more pairs than there are actions without one, and those that have pairs are the rest.
+-- How many pairs there can be: of one action no four, and with up to n actions, n being 5 or more, at most three for each of n - 3. An action with k pairs
+-- has k undos, which are first in no pair; so no action has more pairs than there are actions without one, and those that have pairs are the rest.
 use mathlib.Core.Path.{_≡_, refl, sym, ap, _∙_}
 use mathlib.Core.Bool.{Bool, true, false, not, _&&_}
 use mathlib.Core.List.{List}
@@ -10,7 +10,7 @@ use native.Mathlib.Omega.{arith}
 use lib.Dec.{eqb}
 use borrow.Author.Tests.{eq-eqb, ne-eqb, eqb-true, eqb-false}
 use Rattle.blocks.specs.Bounded.{total, one}
-use Rattle.blocks.proofs.Bounded.{decide, both-hold, total-some, total-none, total-single, total-same, total-sum, total-exchanged, total-below, one-holds, one-most}
+use Rattle.blocks.proofs.Bounded.{decide, both-hold, total-upto, total-some, total-none, total-single, total-same, total-sum, total-exchanged, total-below, one-holds, one-most}
 use Rattle.bodies.specs.Pairs.{Pairs, pairCount, first, second, isPair, pairsOf}
 
 total-ones : (n : ℕ) → total n (λ i. 1) ≡ n
@@ -45,6 +45,14 @@ module _ (actions : ℕ) (b : List ℕ) (p : Pairs actions b) where
       sym (total-sum (λ a. one (eqb (pairsOf b a) 0)) (λ a. one (not (eqb (pairsOf b a) 0))) actions)
       ∙ total-same (λ a. one (eqb (pairsOf b a) 0) + one (not (eqb (pairsOf b a) 0))) (λ a. 1) actions (λ a l. one-of-two (eqb (pairsOf b a) 0))
       ∙ total-ones actions
+
+  -- four pairs with one first would be counted
+  pub no-fourth : (h i j k : ℕ) → h < i → i < j → j < k → k < pairCount b
+      → first b h ≡ first b k → first b i ≡ first b k → first b j ≡ first b k → ⊥
+  no-fourth h i j k hi ij jk l eh ei ej =
+      let g : ℕ → ℕ = λ n. one (eqb (first b n) (first b k)) in
+      let at : (n : ℕ) → first b n ≡ first b k → g n ≡ 1 = λ n e. rw (eq-eqb (first b n) (first b k) e) in
+      omega (arith, p .few (first b k), total-upto g (pairCount b) k l, total-upto g k j jk, total-upto g j i ij, total-upto g i h hi, at h eh, at i ei, at j ej, at k refl)
 
   -- each pair is counted at its first
   all-pairs : total actions (pairsOf b) ≡ pairCount b

@@ -3,7 +3,7 @@ use mathlib.Core.Path.{_≡_}
 use mathlib.Core.List.{List}
 use Prim.Native.Nat.{ℕ}
 use native.Mathlib.Omega.{arith}
-use Rattle.bodies.proofs.Most.{most-pairs}
+use Rattle.bodies.proofs.Most.{no-fourth, most-pairs}
 use Rattle.plan.specs.Reading.{bytesOf, readOf}
 use Rattle.plan.specs.Demand1.{InARow, Demand1}
 use Rattle.plan.specs.PlanFile.{mostActions, mostPairs, Runnable}
@@ -15,7 +15,7 @@ use Rattle.plan.proofs.Exactly.{accepted-exactly, refused-exactly, acce
 use Rattle.plan.proofs.Prefix.{beginning-decides}
 use Rattle.plan.proofs.InBlocks.{in-blocks}
 use Rattle.plan.proofs.Tree.{drawn}
-use Rattle.plan.proofs.Largest.{largest, largest-layout, largest-long, largest-accepted}
+use Rattle.plan.proofs.Largest.{largest, largest-bytes, largest-long, largest-layout, largest-accepted}
 
 laid : (s : List ℕ) (l : Layout) → readOf s ≡ Accepted l → Laid mostActions mostPairs s l
 laid s l h = accepted-laid mostActions mostPairs s l h
@@ -41,11 +41,12 @@ demand1 = record {
   refuses = λ s bytes n. refused-exactly mostActions mostPairs (omega arith) s bytes n;
   accepts-within = λ actionLimit pairLimit few s bytes. accepted-exactly actionLimit pairLimit few s bytes;
   refuses-within = λ actionLimit pairLimit few s bytes n. refused-exactly actionLimit pairLimit few s bytes n;
+  no-fourth = λ actions pairs legal. no-fourth actions pairs legal;
   most-pairs = λ actionLimit actions pairs five few legal. most-pairs actions pairs legal actionLimit five few;
   blocks = in-blocks;
   holds = λ s l h. accepted-holds mostActions mostPairs (omega arith) s l h;
   most = λ s l h. most-bytes mostActions mostPairs s l (laid s l h);
-  largest = (largest, largest-layout, largest-long, largest-accepted);
+  largest = (largest, accepted-exactly mostActions mostPairs (omega arith) largest largest-bytes .0 (largest-layout, largest-accepted), largest-long);
   row = λ s l h. in-a-row s l (laid s l h);
   tree = λ s l h. drawn (bytesOf s (l .types)) (bytesOf s (l .nodes)) (runnable s l h);
   beginning = λ s n h k. beginning-decides mostActions mostPairs s n k (omega arith);

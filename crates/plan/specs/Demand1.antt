@@ -8,7 +8,7 @@ use lib.ListN.{length, take}
 use Rattle.process.specs.Leaves.{AsWritten, HasLeaf, Distinct}
 use Rattle.process.specs.Depth.{Flat}
 use Rattle.blocks.specs.Block.{block}
-use Rattle.bodies.specs.Pairs.{Pairs, pairCount}
+use Rattle.bodies.specs.Pairs.{Pairs, pairCount, first}
 use Rattle.nodes.specs.Nodes.{count, form, Under}
 use Rattle.plan.specs.PlanFile.{mostActions, mostPairs, mostBytes, Bytes, Bodies, PlanFile}
 use Rattle.plan.specs.Refusals.{Broken}
@@ -52,6 +52,9 @@ pub record Demand1 : Type 0 where
       → ((l : Layout) × (readWithin actionLimit pairLimit s ≡ Accepted l)) ↔ PlanFile actionLimit pairLimit s
   pub refuses-within : (actionLimit pairLimit : ℕ) → actionLimit ≤ 128 → (s : List ℕ) → Bytes s → (n : ℕ)
       → (readWithin actionLimit pairLimit s ≡ Refused n) ↔ Broken actionLimit pairLimit s n
+  -- of pairs that keep the pair rule no four have one first
+  pub no-fourth : (actions : ℕ) (pairs : List ℕ) → Pairs actions pairs → (h i j k : ℕ) → h < i → i < j → j < k → k < pairCount pairs
+      → first pairs h ≡ first pairs k → first pairs i ≡ first pairs k → first pairs j ≡ first pairs k → ⊥
   -- the limit of pairs that goes with a limit of actions, 21 with ten and 63 with 24, turns away no pairs that keep the pair rule
   pub most-pairs : (actionLimit actions : ℕ) (pairs : List ℕ) → 5 ≤ actionLimit → actions ≤ actionLimit → Pairs actions pairs
       → pairCount pairs ≤ 3 * (actionLimit - 3)
@@ -60,7 +63,7 @@ pub record Demand1 : Type 0 where
   pub holds : (s : List ℕ) (l : Layout) → readOf s ≡ Accepted l → Holds mostActions mostPairs s l
   -- an accepted file is at most as long as the largest, some file is as long, and the bodies lie in a row
   pub most : (s : List ℕ) (l : Layout) → readOf s ≡ Accepted l → length s ≤ mostBytes
-  pub largest : (s : List ℕ) × (l : Layout) × (length s ≡ mostBytes) × (readOf s ≡ Accepted l)
+  pub largest : (s : List ℕ) × PlanFile mostActions mostPairs s × (length s ≡ mostBytes)
   pub row : (s : List ℕ) (l : Layout) → readOf s ≡ Accepted l → InARow s l
   -- its nodes draw one tree
   pub tree : (s : List ℕ) (l : Layout) → readOf s ≡ Accepted l → Drawn (bytesOf s (l .types)) (bytesOf s (l .nodes))

@@ -1,6 +1,6 @@
 // The group `runs`: what a runner tells and lets through.
 // A vector's body is a byte, 0 for a start or 1 for a job that is made up; then for a start the length of the plan file, two bytes, the file and
-// the answer to the start, and for a job its 502 bytes, with its two numbers in eight bytes each; then steps, twelve bytes each: an entry, and
+// the answer to the start, and for a job its bytes, with its two numbers in eight bytes each; then steps, twelve bytes each: an entry, and
 // the answer to it. After a step the job has to be as it was, and where the entry was taken have that entry more.
 ghost use mathlib.Core.Path.{_≡_};
 ghost use Prim.Native.Nat.{_+_, _*_, _≤_};
