@@ -496,17 +496,36 @@ def write_programs(cells, write, of_course):
         write(f'tests/stored/{name}/stdout', writes)
 
 
+def with_another_end(body):
+    """a vector of the group `runs` whose last answer tells another end"""
+    return body[:-1] + bytes([body[-1] ^ 1])
+
+
 def write_differences(write, runs):
-    """the stored case of `compare` whose vectors do not all agree, and whose data files are not all whole: a second vector is missing, a byte is left over"""
+    """the stored case of `compare` whose vectors do not all agree, and whose data files are not all whole: a last vector is missing, a byte is left over"""
     case = 'tests/stored/compare-differs/'
     p2 = dict(plans_of_document())['P2']
     write(case + 'program', b'compare\n')
     write(case + 'data/files', data_of([('P1', bytes([0]) + P1), ('a wrong number', bytes([7]) + P1), ('no file', bytes([1])), ('another', bytes([2]) + P1)]))
-    write(case + 'data/runs', (2).to_bytes(4, 'little') + data_of(runs[:1])[4:])
+    session, job = runs[0][1], next(body for name, body in runs if name.endswith('as it is'))
+    answers = 1 + (len(session) - 13 - int.from_bytes(session[1:3], 'little')) // 12
+    some = [runs[0], ('another end', with_another_end(session)), ('of a job', with_another_end(job))]
+    write(case + 'data/runs', (len(some) + 1).to_bytes(4, 'little') + data_of(some)[4:])
     write(case + 'data/verdicts', data_of([('P2', (0).to_bytes(4, 'little') + bytes([0]) + p2)]) + bytes(1))
     write(case + 'stdout', b'files: vector 2 (a wrong number): expected 7, found 0\nfiles: 4 vectors, 2 agree\n'
-          b'runs: 1 vectors, 1 agree\nruns: the data file is damaged after these\n'
+          + f'runs: vector 2 (another end): expected {answers}, found {answers - 1}\n'.encode() +
+          b'runs: 3 vectors, 1 agree\nruns: the data file is damaged after these\n'
           b'verdicts: vector 1 (P2): expected 0, found 65538\nverdicts: 1 vectors, 0 agree\nverdicts: the data file is damaged after these\n')
+
+
+def write_course(cells, write):
+    """the stored case of `course` with the largest file and one that is a byte longer; the other plans are not there"""
+    case = 'tests/stored/course-largest/'
+    write(case + 'program', b'course\n')
+    plans = {'p1.plan': LARGEST, 'p2.plan': LARGEST + b'\0'}
+    for name, file in plans.items():
+        write(case + 'data/' + name, file)
+    write(case + 'stdout', ''.join(f'{name}\n{verdict_lines(cells, file)}' for name, file in plans.items()).encode())
 
 
 def main():
@@ -558,6 +577,7 @@ def main():
     counts = ''.join(f'{group}: {n} vectors, {n} agree\n' for group, n in (('files', len(vectors)), ('runs', len(runs)), ('verdicts', len(verdicts))))
     write('crates/compare/stdout', counts.encode())
     write_differences(write, runs)
+    write_course(cells, write)
     # last, so that the lines of the others keep their numbers, which docs/GUIDE.md has
     course = judged + [('broken', whole([3], (), NESTED)), withdrawn]
     write_programs(cells, write, {name.lower(): file for name, file in course})
