@@ -81,25 +81,23 @@ fn stepped(
     ensures { λ r. ⌜ Stepped (now (masks .entry)) w t (now (positives .entry)) (now (negatives .entry)) top (now (positives .exit)) (now (negatives .exit)) r ⌝ }
 {
     let below = (top + 63) % 64;
+    let p = positives[top];
+    let n = negatives[top];
+    let q = positives[below];
+    let m = negatives[below];
     match t {
         0x80 => {
-            let positive = negatives[top];
-            let negative = positives[top];
-            put(positives, negatives, top, positive, negative);
+            put(positives, negatives, top, n, p);
             top
         }
         0x81 => {
-            let positive = positives[below] & positives[top];
-            let negative = negatives[below] | negatives[top];
             put(positives, negatives, top, 0, 0);
-            put(positives, negatives, below, positive, negative);
+            put(positives, negatives, below, q & p, m | n);
             below
         }
         0x82 => {
-            let positive = positives[below] | positives[top];
-            let negative = negatives[below] & negatives[top];
             put(positives, negatives, top, 0, 0);
-            put(positives, negatives, below, positive, negative);
+            put(positives, negatives, below, q | p, m & n);
             below
         }
         _ => {

@@ -10,74 +10,38 @@ use Rattle.rule.proofs.stepped.Tie as tie
 add-below : tie.Need-add-below
 add-below c = search needs
 
-mul-positive : tie.Need-mul-positive
-mul-positive c = search needs
+mul-p : tie.Need-mul-p
+mul-p c = search needs
 
-element-copy-out-positive : tie.Need-element-copy-out-positive
-element-copy-out-positive c = search needs
+element-copy-out-p : tie.Need-element-copy-out-p
+element-copy-out-p c = search needs
 
-mul-negative : tie.Need-mul-negative
-mul-negative c = search needs
+mul-n : tie.Need-mul-n
+mul-n c = search needs
 
-element-copy-out-negative : tie.Need-element-copy-out-negative
-element-copy-out-negative c = search needs
+element-copy-out-n : tie.Need-element-copy-out-n
+element-copy-out-n c = search needs
+
+mul-q : tie.Need-mul-q
+mul-q c = search needs
+
+element-copy-out-q : tie.Need-element-copy-out-q
+element-copy-out-q c = search needs
+
+mul-m : tie.Need-mul-m
+mul-m c = search needs
+
+element-copy-out-m : tie.Need-element-copy-out-m
+element-copy-out-m c = search needs
 
 put-requires : tie.Need-put-requires
 put-requires c κs = search needs
-
-mul-positive-2 : tie.Need-mul-positive-2
-mul-positive-2 c = search needs
-
-element-copy-out-positive-2 : tie.Need-element-copy-out-positive-2
-element-copy-out-positive-2 c = search needs
-
-mul-positive-3 : tie.Need-mul-positive-3
-mul-positive-3 c = search needs
-
-element-copy-out-positive-3 : tie.Need-element-copy-out-positive-3
-element-copy-out-positive-3 c = search needs
-
-mul-negative-2 : tie.Need-mul-negative-2
-mul-negative-2 c = search needs
-
-element-copy-out-negative-2 : tie.Need-element-copy-out-negative-2
-element-copy-out-negative-2 c = search needs
-
-mul-negative-3 : tie.Need-mul-negative-3
-mul-negative-3 c = search needs
-
-element-copy-out-negative-3 : tie.Need-element-copy-out-negative-3
-element-copy-out-negative-3 c = search needs
 
 put-requires-2 : tie.Need-put-requires-2
 put-requires-2 c κs = search needs
 
 put-requires-3 : tie.Need-put-requires-3
 put-requires-3 c κs = search needs
-
-mul-positive-4 : tie.Need-mul-positive-4
-mul-positive-4 c = search needs
-
-element-copy-out-positive-4 : tie.Need-element-copy-out-positive-4
-element-copy-out-positive-4 c = search needs
-
-mul-positive-5 : tie.Need-mul-positive-5
-mul-positive-5 c = search needs
-
-element-copy-out-positive-5 : tie.Need-element-copy-out-positive-5
-element-copy-out-positive-5 c = search needs
-
-mul-negative-4 : tie.Need-mul-negative-4
-mul-negative-4 c = search needs
-
-element-copy-out-negative-4 : tie.Need-element-copy-out-negative-4
-element-copy-out-negative-4 c = search needs
-
-mul-negative-5 : tie.Need-mul-negative-5
-mul-negative-5 c = search needs
-
-element-copy-out-negative-5 : tie.Need-element-copy-out-negative-5
-element-copy-out-negative-5 c = search needs
 
 put-requires-4 : tie.Need-put-requires-4
 put-requires-4 c κs = search needs
@@ -96,8 +60,8 @@ put-requires-6 c κs = search needs
 
 returns : tie.Need-returns
 returns c =
-    let t = c .before .before .before .before .before in
-    let inside = t .before .pre in
+    let t = c .before .before .before in
+    let inside = t .before .before .before .before .before .pre in
     record {
       inside = inside;
       steps = λ pairs stacks m h. rw (c .put .ensures .0, c .put .ensures .1, t .match .keys1) (holds-replaced inside h (tells-swapped (holds-last inside h)));
@@ -106,8 +70,8 @@ returns c =
 returns-2 : tie.Need-returns-2
 returns-2 c =
     let p = c .before .before .before in
-    let t = p .before .before .before .before .before .before .before in
-    let inside = t .before .pre in
+    let t = p .before .before .before in
+    let inside = t .before .before .before .before .before .pre in
     record {
       inside = omega arith;
       steps = λ pairs stacks m h. rw (c .put3 .ensures .0, c .put3 .ensures .1, p .put2 .ensures .0, p .put2 .ensures .1, t .match .keys2)
@@ -117,8 +81,8 @@ returns-2 c =
 returns-3 : tie.Need-returns-3
 returns-3 c =
     let p = c .before .before .before in
-    let t = p .before .before .before .before .before .before .before in
-    let inside = t .before .pre in
+    let t = p .before .before .before in
+    let inside = t .before .before .before .before .before .pre in
     record {
       inside = omega arith;
       steps = λ pairs stacks m h. rw (c .put5 .ensures .0, c .put5 .ensures .1, p .put4 .ensures .0, p .put4 .ensures .1, t .match .keys3)
@@ -132,7 +96,7 @@ returns-4 c =
     record {
       inside = omega arith;
       steps = λ pairs stacks m h. rw (c .put6 .ensures .0, c .put6 .ensures .1, ne-eqb _ _ (n .0 .0 .1), ne-eqb _ _ (n .0 .1), ne-eqb _ _ (n .1))
-          (holds-pushed (t .before .pre) h (c .before .before .before .literal-of .ensures pairs m));
+          (holds-pushed (t .before .before .before .before .before .pre) h (c .before .before .before .literal-of .ensures pairs m));
     }
 
 pub stepped-spec : {M : Type 1} → statement M
@@ -140,29 +104,17 @@ stepped-spec =
     tie.close
     (tie.spec
     add-below
-    mul-positive
-    element-copy-out-positive
-    mul-negative
-    element-copy-out-negative
+    mul-p
+    element-copy-out-p
+    mul-n
+    element-copy-out-n
+    mul-q
+    element-copy-out-q
+    mul-m
+    element-copy-out-m
     put-requires
-    mul-positive-2
-    element-copy-out-positive-2
-    mul-positive-3
-    element-copy-out-positive-3
-    mul-negative-2
-    element-copy-out-negative-2
-    mul-negative-3
-    element-copy-out-negative-3
     put-requires-2
     put-requires-3
-    mul-positive-4
-    element-copy-out-positive-4
-    mul-positive-5
-    element-copy-out-positive-5
-    mul-negative-4
-    element-copy-out-negative-4
-    mul-negative-5
-    element-copy-out-negative-5
     put-requires-4
     put-requires-5
     add-next
