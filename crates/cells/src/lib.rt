@@ -12,9 +12,6 @@ ghost use Rattle.runs.specs.Cells.{isSucceeded, isFailed, given, leafCell, node
 ghost use Rattle.runs.specs.TwoLevels.{nothing, compositeForm, leafTwo, formTwo, nodeTwo, toldTwo};
 ghost use Rattle.process.specs.Forms.{formOf};
 
-// A parallel of which one side has failed and the other has not begun: it may end so.
-const ONE_SIDE: Ended = Ended::Failed;
-
 fn given(test: bool, leaves: u64) -> u64
     ensures { λ r. ⌜ r ≡ given test leaves ⌝ }
 {
@@ -33,8 +30,8 @@ fn node_begun(form: Composite, x: bool, y: bool) -> bool
     }
 }
 
-fn node_ended(form: Composite, x: Ended, x_begun: bool, y: Ended, y_begun: bool) -> Ended
-    ensures { λ r. ⌜ r ≡ nodeEnded (compositeForm form) x «x_begun» y «y_begun» ⌝ }
+fn node_ended(form: Composite, x: Ended, y: Ended, y_begun: bool) -> Ended
+    ensures { λ r. ⌜ r ≡ nodeEnded (compositeForm form) x y «y_begun» ⌝ }
 {
     match form {
         Composite::Sequence => match x {
@@ -43,18 +40,10 @@ fn node_ended(form: Composite, x: Ended, x_begun: bool, y: Ended, y_begun: bool)
             Ended::Failed => Ended::Failed,
         },
         Composite::Parallel => match x {
-            Ended::Open => match y {
-                Ended::Open => Ended::Open,
-                Ended::Succeeded => Ended::Open,
-                Ended::Failed => { if x_begun { Ended::Open } else { ONE_SIDE } }
-            },
-            Ended::Succeeded => match y {
-                Ended::Open => Ended::Open,
-                Ended::Succeeded => Ended::Succeeded,
-                Ended::Failed => Ended::Failed,
-            },
+            Ended::Open => Ended::Open,
+            Ended::Succeeded => y,
             Ended::Failed => match y {
-                Ended::Open => { if y_begun { Ended::Open } else { ONE_SIDE } }
+                Ended::Open => Ended::Open,
                 Ended::Succeeded => Ended::Failed,
                 Ended::Failed => Ended::Failed,
             },
@@ -123,7 +112,7 @@ fn node_cell(form: Composite, x: Cell, y: Cell, x_next: u64, x_over: bool) -> Ce
     Cell {
         empty: false,
         begun: node_begun(form, x.begun, y.begun),
-        ended: node_ended(form, x_ended, x.begun, y_ended, y.begun),
+        ended: node_ended(form, x_ended, y_ended, y.begun),
         next: left | right,
     }
 }

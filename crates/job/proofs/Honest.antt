@@ -14,11 +14,12 @@ use Rattle.plan.specs.declared.Reading.the-variants.{Accepted}
 use Rattle.runs.specs.Cells.{Holds, ending, toldEnded, toldNext}
 use Rattle.runs.specs.declared.Ended.{Ended}
 use Rattle.runs.specs.declared.Ended.the-variants as ended
-use Rattle.job.specs.Job.{endOf, takeOf}
+use Rattle.job.specs.Job.{endOf, saying, takeOf}
 use Rattle.job.specs.Offer.{Standing, statusNumber, recordOf}
-use Rattle.job.specs.Demand2.{planProcess, Continues, Takes, Honest}
+use Rattle.job.specs.Demand2.{planProcess, Continues, Takes, EndsOrGoesOn, may-end, goes-on, Honest}
 use Rattle.job.specs.Numbers.{numberOf, endNumber, Refuses}
 use Rattle.state.specs.declared.Entry.{Entry}
+use Rattle.job.specs.declared.Told.{Told}
 use Rattle.job.specs.declared.Taken.{Taken}
 use Rattle.job.proofs.Good.{not-taken, taken-so, record-more}
 use Rattle.job.proofs.Onward.{end-told}
@@ -56,6 +57,24 @@ module _ (s : List ℕ) (l : Layout) (acc : readOf s ≡ Accepted l) (x : Standi
       go (inl h) = absurd (n (continues s l acc x f e .0 h))
       go (inr h) = refuses-so 11 (x .job) (takeOf (x .job) e) (not-taken s l acc (x .job) (f .good) e h)
 
+  abbrev T : Told
+  T = saying (record { ended = toldEnded 1 P w; next = toldNext 1 P w })
+
+  ends-or-goes-on : EndsOrGoesOn (x .told)
+  ends-or-goes-on = rw (told-is s l acc x f) (go (toldEnded 1 P w) refl)
+    where
+      ended-so : (t : Status) → toldEnded 1 P w ≡ ending t → EndsOrGoesOn T
+      ended-so t e = may-end t (end-told (toldEnded 1 P w) t e) (tells s l acc .over w t e)
+
+      open-so : toldEnded 1 P w ≡ ended.Open → ((t : Status) × (toldEnded 1 P w ≡ ending t)) ⊎ ((n : ℕ) × Holds (toldNext 1 P w) n) → EndsOrGoesOn T
+      open-so e (inl (t, h)) = ended-so t h
+      open-so e (inr (n, h)) = goes-on (rw e) n h
+
+      go : (y : Ended) → toldEnded 1 P w ≡ y → EndsOrGoesOn T
+      go ended.Open e = open-so e (tells s l acc .goes-on w (reached s l acc x f .begins))
+      go ended.Succeeded e = ended-so ok e
+      go ended.Failed e = ended-so fail e
+
   pub honest : Honest P x
   honest =
       let begun = reached s l acc x f .begins in
@@ -75,4 +94,5 @@ module _ (s : List ℕ) (l : Layout) (acc : readOf s ≡ Accepted l) (x : Standi
               (t, tells s l acc .next w begun n t .1 (k, p)),
           λ (t, z). rw is (tells s l acc .next w begun n t .0 z .0),
         );
+        one-of = ends-or-goes-on;
       }

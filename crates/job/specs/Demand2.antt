@@ -1,6 +1,7 @@
 -- Demand 2: fed any list of entries, a fresh job of an accepted plan file lets through exactly the beginnings of the runs that Figure 2
--- gives for the plan, and says that the run may end exactly where the figure has a complete one. `demand2` in proofs/ proves it; the
--- contracts of `Job::start` and `Job::take` equate their results with `startOf` and `takeOf`.
+-- gives for the plan, and says that the run may end exactly where the figure has a complete one. Since both sides of a parallel begin
+-- (N6 of document 02), a run that may end does not go on. `demand2` in proofs/ proves it; the contracts of `Job::start` and `Job::take`
+-- equate their results with `startOf` and `takeOf`.
 use mathlib.Core.Path.{_≡_}
 use mathlib.Core.List.{List, [], _∷_, _++_}
 use mathlib.Core.Logic.{_↔_}
@@ -17,6 +18,7 @@ use Rattle.job.specs.Numbers.{numberOf, nextOf, endNumber, endOf, Refuse
 use Rattle.job.specs.Offer.{Standing, offer, started, statusNumber, runEntry, recordOf, Real, Sized}
 use Rattle.state.specs.declared.Entry.{Entry}
 use Rattle.job.specs.declared.Job.{Job}
+use Rattle.job.specs.declared.Told.{Told}
 use Rattle.job.specs.declared.Taken.{Taken}
 
 -- the process of the plan
@@ -34,6 +36,11 @@ pub record Takes (e : Entry) (w : Run) (t : Taken) : Type 0 where
   pub number : numberOf (t .answer) ≡ 0
   pub recorded : recordOf (t .job) ≡ w ++ (runEntry e ∷ [])
 
+-- Of the two one is told, and never both: that the run may end, or that it may not and some leaf may come next.
+pub data EndsOrGoesOn (t : Told) : Type 0 where
+  may-end : (s : Status) → endNumber (t .end) ≡ statusNumber s → t .next ≡ 0 → EndsOrGoesOn t
+  goes-on : endNumber (t .end) ≡ 0 → (n : ℕ) → t .next / 2 ^ n % 2 ≡ 1 → EndsOrGoesOn t
+
 -- What holds wherever a fresh job of P stands after some entries, refused ones passed over.
 pub record Honest (P : Process) (x : Standing) : Type 0 where
   -- (i) the record begins a run
@@ -45,6 +52,8 @@ pub record Honest (P : Process) (x : Standing) : Type 0 where
   pub ends : (s : Status) → (endNumber (x .told .end) ≡ statusNumber s) ↔ Complete P (recordOf (x .job)) s
   -- (iv) a leaf may come next exactly where some entry of it continues the record
   pub next : (n : ℕ) → (x .told .next / 2 ^ n % 2 ≡ 1) ↔ ((s : Status) × Begins P (recordOf (x .job) ++ (entry n s ∷ [])))
+  -- (v) where the run may end nothing may come next, and else something may
+  pub one-of : EndsOrGoesOn (x .told)
 
 -- A start that is not refused: what it tells, and the fresh job, whose record is empty.
 pub record Starts (x : Standing) (t : Taken) : Type 0 where

@@ -11,7 +11,7 @@ use Rattle.outcomes.proofs.Table.{all-cells, at-cell}
 use Rattle.process.specs.Process.{Status, ok, fail, Form, sequence, parallel, choice, compensation, handler}
 use Rattle.process.specs.Figure2.{both}
 use Rattle.outcomes.specs.Codes.{Code, Ends, ends-ok, ends-fail, size, number}
-use Rattle.outcomes.specs.Chart.{Join, j-none, j-sequence, j-sequence-fails, j-parallel, j-parallel-left, j-parallel-right, j-choice-left, j-choice-right, j-compensation, j-compensation-fails, j-handler, j-handler-fails}
+use Rattle.outcomes.specs.Chart.{Join, j-none, j-sequence, j-sequence-fails, j-parallel, j-choice-left, j-choice-right, j-compensation, j-compensation-fails, j-handler, j-handler-fails}
 use Rattle.outcomes.specs.Cells.{lines, cell}
 use Rattle.outcomes.proofs.Depth.{ended}
 use Rattle.outcomes.proofs.Numbers.{codeOf, number-small, code-of-number, code-short, number-step, cut-twice}
@@ -52,10 +52,8 @@ in-sequence (suc n) (fail ∷ a) (t ∷ b) = cannot
 abbrev pub in-parallel : (n : ℕ) (a b : Code) → Joinable parallel (take n a) (take n b)
 in-parallel zero a b = can j-none
 in-parallel (suc n) [] [] = can j-none
-in-parallel (suc n) [] (ok ∷ b) = cannot
-in-parallel (suc n) [] (fail ∷ b) = can j-parallel-right
-in-parallel (suc n) (ok ∷ a) [] = cannot
-in-parallel (suc n) (fail ∷ a) [] = can j-parallel-left
+in-parallel (suc n) [] (t ∷ b) = cannot
+in-parallel (suc n) (s ∷ a) [] = cannot
 in-parallel (suc n) (s ∷ a) (t ∷ b) = above (both s t) (λ c j. j-parallel j refl) (in-parallel n a b)
 
 -- the left code at n levels, run to its end for a handler
@@ -128,8 +126,6 @@ parallel-found zero j = refl
 parallel-found (suc n) j-none = refl
 parallel-found (suc n) (j-parallel {a = a} {b = b} {c = c} {s = s} {t = t} j z) =
     above-answer n (both s t) (λ c j. j-parallel j refl) (in-parallel n (take n a) (take n b)) c (parallel-found n j) ∙ ap (λ u. number (suc n) (u ∷ c)) z
-parallel-found (suc n) (j-parallel-left {a = a}) = cut-above n fail a
-parallel-found (suc n) (j-parallel-right {b = b}) = cut-above n fail b
 
 pub join-found : (f : Form) (n : ℕ) {a b c : Code} → Join f a b c → answer (suc n) (joins f n (take (suc n) a) (take (suc n) b)) ≡ number (suc n) c
 join-found sequence n j = sequence-found (suc n) j

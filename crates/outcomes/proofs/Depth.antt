@@ -6,7 +6,7 @@ use Prim.Native.Nat.{ℕ, zero, suc, _+_, _-_, _≤_, max}
 use native.Mathlib.Omega.{arith}
 use lib.ListN.{take}
 use Rattle.process.specs.Process.{Status, ok, fail, Form, sequence, parallel, choice, compensation, handler, Process, done, leaf, node, Run}
-use Rattle.process.specs.Figure2.{both, Interleaving, neither, Forward, f-done, f-leaf, f-sequence, f-sequence-fails, f-parallel, f-parallel-left, f-parallel-right, f-choice-left, f-choice-right, f-compensation, f-compensation-fails, f-handler, f-handler-fails}
+use Rattle.process.specs.Figure2.{both, Interleaving, neither, Forward, f-done, f-leaf, f-sequence, f-sequence-fails, f-parallel, f-choice-left, f-choice-right, f-compensation, f-compensation-fails, f-handler, f-handler-fails}
 use Rattle.outcomes.specs.Codes.{Code}
 use Rattle.outcomes.proofs.Levels.{Levels, l-none, l-run, whole}
 use Rattle.process.specs.Depth.{rightDepth, undoDepth}
@@ -42,8 +42,6 @@ undo-levels (f-leaf a) = omega arith
 undo-levels (f-sequence d e z) = omega (arith, undo-levels d, undo-levels e)
 undo-levels (f-sequence-fails d) = omega (arith, undo-levels d)
 undo-levels (f-parallel d e i z) = omega (arith, undo-levels d, undo-levels e)
-undo-levels (f-parallel-left d) = omega (arith, undo-levels d)
-undo-levels (f-parallel-right d) = omega (arith, undo-levels d)
 undo-levels (f-choice-left d) = omega (arith, undo-levels d)
 undo-levels (f-choice-right d) = omega (arith, undo-levels d)
 undo-levels (f-compensation d) = omega arith
@@ -67,8 +65,6 @@ runs-quiet h (f-leaf a) = absurd (omega arith)
 runs-quiet h (f-sequence d e z) = quiet-sequence (runs-quiet (omega arith) d) (runs-quiet (omega arith) e) z
 runs-quiet h (f-sequence-fails d) = runs-quiet (omega arith) d
 runs-quiet h (f-parallel d e i z) = quiet-parallel (runs-quiet (omega arith) d) (runs-quiet (omega arith) e) i z
-runs-quiet h (f-parallel-left d) = runs-quiet (omega arith) d
-runs-quiet h (f-parallel-right d) = runs-quiet (omega arith) d
 runs-quiet h (f-choice-left d) = runs-quiet (omega arith) d
 runs-quiet h (f-choice-right d) = runs-quiet (omega arith) d
 runs-quiet h (f-compensation d) = absurd (omega arith)

@@ -4,9 +4,9 @@ use mathlib.Core.Path.{_≡_, refl, ap}
 use mathlib.Core.Bool.{Bool, true, false}
 use mathlib.Core.List.{List, [], _∷_, _++_, append-nil, append-assoc}
 use Rattle.process.specs.Process.{Status, ok, fail, Form, sequence, parallel, choice, compensation, handler, Process, node, Run}
-use Rattle.process.specs.Figure2.{Interleaving, neither, Forward, f-sequence, f-sequence-fails, f-parallel, f-parallel-left, f-parallel-right, f-choice-left, f-choice-right, f-compensation, f-compensation-fails, f-handler, f-handler-fails, Complete, c-ok, c-fail}
+use Rattle.process.specs.Figure2.{Interleaving, neither, Forward, f-sequence, f-sequence-fails, f-parallel, f-choice-left, f-choice-right, f-compensation, f-compensation-fails, f-handler, f-handler-fails, Complete, c-ok, c-fail}
 use Rattle.outcomes.specs.Codes.{Code, Ends, ends-ok, ends-fail}
-use Rattle.outcomes.specs.Chart.{Join, j-none, j-sequence, j-sequence-fails, j-parallel, j-parallel-left, j-parallel-right, j-choice-left, j-choice-right, j-compensation, j-compensation-fails, j-handler, j-handler-fails}
+use Rattle.outcomes.specs.Chart.{Join, j-none, j-sequence, j-sequence-fails, j-parallel, j-choice-left, j-choice-right, j-compensation, j-compensation-fails, j-handler, j-handler-fails}
 use Rattle.outcomes.proofs.Interleavings.{left-alone, right-alone, in-turn, swap, end-to-end}
 
 -- P has the code c by the runs rs, one for each level
@@ -68,8 +68,6 @@ join-levels j-none l-none l-none = l-none
 join-levels (j-sequence j) (l-run {rs = ps} d l) (l-run {rs = qs} e m) = l-run (f-sequence d e refl) (rw (turned ps qs .0) at (join-levels j m l))
 join-levels j-sequence-fails (l-run d l) l-none = l-run (f-sequence-fails d) l
 join-levels (j-parallel j z) (l-run {p = p} d l) (l-run {p = q} e m) = l-run (f-parallel d e (in-turn p q) z) (join-levels j l m)
-join-levels j-parallel-left (l-run d l) l-none = l-run (f-parallel-left d) l
-join-levels j-parallel-right l-none (l-run d l) = l-run (f-parallel-right d) l
 join-levels j-choice-left (l-run d l) l-none = l-run (f-choice-left d) l
 join-levels j-choice-right l-none (l-run d l) = l-run (f-choice-right d) l
 join-levels j-compensation (l-run d l-none) l-none = l-run (f-compensation d) l-none
@@ -93,8 +91,6 @@ split l-none = parts l-none l-none j-none neither
 split (l-run (f-sequence {p = p} {q = q} d e z) l) = elim (split l) [ parts m k j i ↦ parts (l-run d k) (l-run e m) (j-sequence j) (end-to-end (rw z at (in-turn p q)) (swap i)) ]
 split (l-run (f-sequence-fails d) l) = left-part (l-run d l) j-sequence-fails
 split (l-run (f-parallel d e k z) l) = elim (split l) [ parts m n j i ↦ parts (l-run d m) (l-run e n) (j-parallel j z) (end-to-end k i) ]
-split (l-run (f-parallel-left d) l) = left-part (l-run d l) j-parallel-left
-split (l-run (f-parallel-right d) l) = right-part (l-run d l) j-parallel-right
 split (l-run (f-choice-left d) l) = left-part (l-run d l) j-choice-left
 split (l-run (f-choice-right d) l) = right-part (l-run d l) j-choice-right
 split (l-run (f-compensation {p = p} d) l) = parts (l-run d l-none) l j-compensation (end-to-end (left-alone p) (right-alone _))

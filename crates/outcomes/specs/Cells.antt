@@ -1,4 +1,5 @@
--- The 245 cells of document 01's "Outcome chart", line by line as it writes them: form number, left code, right code.
+-- The 245 cells of document 01's "Outcome chart", line by line as it writes them, the lines of a parallel as document 02 (N6) amends them:
+-- form number, left code, right code.
 -- Codes are 0 to 6, forms 3 to 7; a cell that is not given, and anything outside, is 7: it cannot occur.
 use mathlib.Core.Bool.{Bool, false, cond, _&&_, _||_}
 use mathlib.Core.List.{List, [], _∷_}
@@ -21,6 +22,10 @@ pub data Line : Type 0 where
 abbrev any-run : List ℕ
 any-run = 1 ∷ 2 ∷ 3 ∷ 4 ∷ 5 ∷ 6 ∷ []
 
+-- 2, 3, 5, 6: its undo ran.
+abbrev undone : List ℕ
+undone = 2 ∷ 3 ∷ 5 ∷ 6 ∷ []
+
 -- 4 to 6: it failed.
 abbrev failed : List ℕ
 failed = 4 ∷ 5 ∷ 6 ∷ []
@@ -37,16 +42,14 @@ lines sequence =
     ∷ line (3 ∷ []) (5 ∷ []) (the-code 6)
     ∷ line failed (0 ∷ []) the-left
     ∷ []
--- (4..6,0) the left, (0,4..6) the right. Both at least 1: failed if either is at least 4; undo not run if both not run, succeeded if
--- both succeeded, failed if either failed, otherwise 7
+-- Both at least 1: failed if either is at least 4; undo not run if both not run, succeeded if both succeeded, failed if both ran and
+-- either failed. "Cells with exactly one code 0 become 7, as do those where one undo failed and the other was not run."
 lines parallel =
     line (0 ∷ []) (0 ∷ []) (the-code 0)
-    ∷ line failed (0 ∷ []) the-left
-    ∷ line (0 ∷ []) failed the-right
     ∷ line (1 ∷ 4 ∷ []) (1 ∷ 4 ∷ []) (failed-if-either 1)
     ∷ line (2 ∷ 5 ∷ []) (2 ∷ 5 ∷ []) (failed-if-either 2)
-    ∷ line (3 ∷ 6 ∷ []) any-run (failed-if-either 3)
-    ∷ line any-run (3 ∷ 6 ∷ []) (failed-if-either 3)
+    ∷ line (3 ∷ 6 ∷ []) undone (failed-if-either 3)
+    ∷ line undone (3 ∷ 6 ∷ []) (failed-if-either 3)
     ∷ []
 -- the one side that is not 0
 lines choice = line (0 ∷ []) (0 ∷ []) (the-code 0) ∷ line any-run (0 ∷ []) the-left ∷ line (0 ∷ []) any-run the-right ∷ []

@@ -16,12 +16,8 @@ pub data Join : Form → Code → Code → Code → Type 0 where
   j-sequence : {a b c : Code} {s : Status} → Join sequence b a c → Join sequence (ok ∷ a) (s ∷ b) (s ∷ c)
   -- P ; Q, second set: P failed, and its undo is the node's
   j-sequence-fails : {a : Code} → Join sequence (fail ∷ a) [] (fail ∷ a)
-  -- P ∥ Q, first set: both ran; P′ ∥ Q′ is undone in parallel
+  -- P ∥ Q: both ran; P′ ∥ Q′ is undone in parallel
   j-parallel : {a b c : Code} {s t u : Status} → Join parallel a b c → both s t ≡ u → Join parallel (s ∷ a) (t ∷ b) (u ∷ c)
-  -- P ∥ Q, second set: P failed and Q never began
-  j-parallel-left : {a : Code} → Join parallel (fail ∷ a) [] (fail ∷ a)
-  -- P ∥ Q, third set: Q failed and P never began
-  j-parallel-right : {b : Code} → Join parallel [] (fail ∷ b) (fail ∷ b)
   -- P □ Q, first set
   j-choice-left : {a : Code} {s : Status} → Join choice (s ∷ a) [] (s ∷ a)
   -- P □ Q, second set

@@ -1,10 +1,12 @@
 -- Worked examples of Figure 2: the report's Examples 1 and 2, whole, and for each form a run that a wrong rule of the figure would lose.
-use mathlib.Core.Path.{_≡_, refl, sym, _∙_}
+use mathlib.Core.Path.{_≡_, refl, sym, _∙_, ap}
 use mathlib.Core.Bool.{Bool, true, false, true≢false}
-use mathlib.Core.List.{List, [], _∷_, _++_}
-use Prim.Native.Nat.{ℕ}
-use Rattle.process.specs.Process.{Status, ok, fail, finishes, fails, either, sequence, parallel, choice, compensation, handler, Process, done, leaf, node, entry, Run}
-use Rattle.process.specs.Figure2.{from-left, from-right, neither, Forward, f-done, f-leaf, f-sequence, f-sequence-fails, f-parallel, f-parallel-left, f-parallel-right, f-choice-left, f-choice-right, f-compensation, f-compensation-fails, f-handler, f-handler-fails, Complete, c-ok, c-fail}
+use mathlib.Core.List.{List, [], _∷_, _++_, append-nil}
+use Prim.Native.Nat.{ℕ, _+_}
+use native.Mathlib.Omega.{arith}
+use lib.ListN.{length, length-append}
+use Rattle.process.specs.Process.{Status, ok, fail, Kind, finishes, fails, either, permits, sequence, parallel, choice, compensation, handler, Process, done, leaf, node, entry, Run}
+use Rattle.process.specs.Figure2.{Interleaving, from-left, from-right, neither, Forward, f-done, f-leaf, f-sequence, f-sequence-fails, f-parallel, f-choice-left, f-choice-right, f-compensation, f-compensation-fails, f-handler, f-handler-fails, Complete, c-ok, c-fail}
 
 not-both : {A : Type 0} {test : Bool} → test ≡ true → test ≡ false → A
 not-both p q = absurd (true≢false (sym p ∙ q))
@@ -95,18 +97,74 @@ executions-order charged-and-processed = (_, _, complete-order kept, refl)
 executions-order charged-and-credited = (_, _, complete-order credited, refl)
 executions-order nothing-left = (_, _, complete-order not-charged, refl)
 
--- Parallel, document 01's P3: a throw beside an action. The action may never have begun, before the throw or after it.
-abbrev beside : Process
+-- Parallel, document 01's P3: a throw beside an action. Both begin, in either order, and so the set 1 is the only one.
+abbrev pub beside : Process
 beside = node parallel (leaf 0 fails) (leaf 1 finishes)
 
-alone : Complete beside (entry 0 fail ∷ []) fail
-alone = c-fail (f-parallel-left (f-leaf refl)) (c-ok f-done) refl
+data BesideComplete : Run → Status → Type 0 where
+  thrown-first : BesideComplete (entry 0 fail ∷ entry 1 ok ∷ []) fail
+  thrown-last : BesideComplete (entry 1 ok ∷ entry 0 fail ∷ []) fail
 
-alone-on-the-right : Complete (node parallel (leaf 0 finishes) (leaf 1 fails)) (entry 1 fail ∷ []) fail
-alone-on-the-right = c-fail (f-parallel-right (f-leaf refl)) (c-ok f-done) refl
+not-ok : {A : Type 0} → fail ≡ ok → A
+not-ok e = not-both {test = permits finishes ok} refl (ap (permits finishes) (sym e))
 
-either-order : Complete beside (entry 1 ok ∷ entry 0 fail ∷ []) fail
-either-order = c-fail (f-parallel (f-leaf refl) (f-leaf refl) (from-right (from-left neither)) refl) (c-ok (f-parallel f-done f-done neither refl)) refl
+no-undos : {r : Run} {s : Status} → Complete (node parallel done done) r s → r ≡ []
+no-undos (c-ok (f-parallel f-done f-done neither e)) = refl
+no-undos (c-fail (f-parallel f-done f-done i e) c z) = not-ok (sym e)
+
+beside-complete : {r : Run} {s : Status} → Complete beside r s → BesideComplete r s
+beside-complete (c-ok (f-parallel {s = ok} (f-leaf m) b i e)) = not-both m refl
+beside-complete (c-ok (f-parallel {s = fail} a b i e)) = not-ok e
+beside-complete (c-fail (f-parallel {s = ok} (f-leaf m) b i e) c z) = not-both m refl
+beside-complete (c-fail (f-parallel {s = fail} {t = fail} a (f-leaf m) i e) c z) = not-both m refl
+beside-complete (c-fail (f-parallel {s = fail} {t = ok} (f-leaf _) (f-leaf _) (from-left (from-right neither)) e) c z) = rw (← z, no-undos c) thrown-first
+beside-complete (c-fail (f-parallel {s = fail} {t = ok} (f-leaf _) (f-leaf _) (from-right (from-left neither)) e) c z) = rw (← z, no-undos c) thrown-last
+
+complete-beside : {r : Run} {s : Status} → BesideComplete r s → Complete beside r s
+complete-beside thrown-first = c-fail (f-parallel (f-leaf refl) (f-leaf refl) (from-left (from-right neither)) refl) (c-ok (f-parallel f-done f-done neither refl)) refl
+complete-beside thrown-last = c-fail (f-parallel (f-leaf refl) (f-leaf refl) (from-right (from-left neither)) refl) (c-ok (f-parallel f-done f-done neither refl)) refl
+
+-- Two leaves side by side, of any kinds, whichever fails: each has its entry.
+interleaved-length : {p q r : Run} → Interleaving p q r → length r ≡ length p + length q
+interleaved-length neither = refl
+interleaved-length (from-left i) = omega (arith, interleaved-length i)
+interleaved-length (from-right i) = omega (arith, interleaved-length i)
+
+two-entries : {i j : ℕ} {k l : Kind} {r : Run} {s : Status} {U : Process} → Forward (node parallel (leaf i k) (leaf j l)) r s U → (length r ≡ 2) × (U ≡ node parallel done done)
+two-entries (f-parallel (f-leaf _) (f-leaf _) i e) = (interleaved-length i, refl)
+
+both-begin : (k l : Kind) {r : Run} {s : Status} → Complete (node parallel (leaf 0 k) (leaf 1 l)) r s → length r ≡ 2
+both-begin k l (c-ok f) = two-entries f .0
+both-begin k l (c-fail f c z) = let (h, e) = two-entries f in rw (← z, no-undos (rw e at c), append-nil) h
+
+-- And so their undos, side by side: (0 with undo 1) beside (2 with undo 3), then a throw.
+abbrev pub undoneBeside : Kind → Kind → Process
+undoneBeside k l = node sequence (node parallel (node compensation (leaf 0 finishes) (leaf 1 k)) (node compensation (leaf 2 finishes) (leaf 3 l))) (leaf 4 fails)
+
+record Compensated (U : Process) (r : Run) (s : Status) (U′ : Process) : Type 0 where
+  succeeded : ok ≡ s
+  one-entry : length r ≡ 1
+  its-undo : U′ ≡ U
+
+compensated : {n : ℕ} {U U′ : Process} {r : Run} {s : Status} → Forward (node compensation (leaf n finishes) U) r s U′ → Compensated U r s U′
+compensated (f-compensation (f-leaf _)) = record { succeeded = refl; one-entry = refl; its-undo = refl }
+compensated (f-compensation-fails (f-leaf m)) = not-both m refl
+
+nothing-undone : {r : Run} {s : Status} → Complete (node sequence (node parallel done done) done) r s → r ≡ []
+nothing-undone (c-ok (f-sequence (f-parallel f-done f-done neither e) f-done z)) = sym z
+nothing-undone (c-fail (f-sequence-fails (f-parallel f-done f-done i e)) c z) = not-ok (sym e)
+
+undos-run : {k l : Kind} {r : Run} {s : Status} → Complete (node sequence done (node parallel (leaf 1 k) (leaf 3 l))) r s → length r ≡ 2
+undos-run (c-ok (f-sequence f-done b z)) = rw (← z) (two-entries b .0)
+undos-run (c-fail (f-sequence f-done b z) c i) = let (h, e) = two-entries b in rw (← i, ← z, nothing-undone (rw e at c), append-nil) h
+
+undos-both-begin : (k l : Kind) {r : Run} {s : Status} → Complete (undoneBeside k l) r s → length r ≡ 5
+undos-both-begin k l (c-ok (f-sequence a (f-leaf m) z)) = not-both m refl
+undos-both-begin k l (c-fail (f-sequence (f-parallel a b i e) (f-leaf m) z) c w) =
+    let x = compensated a in
+    let y = compensated b in
+    rw (← w, ← z) (simp length-append (omega (arith, interleaved-length i, x .one-entry, y .one-entry, undos-run (rw (x .its-undo, y .its-undo) at c))))
+undos-both-begin k l (c-fail (f-sequence-fails (f-parallel a b i e)) c w) = not-ok (sym e ∙ rw (← compensated a .succeeded, ← compensated b .succeeded))
 
 -- Choice: exactly one side.
 left-side : Complete (node choice (leaf 0 finishes) (leaf 1 fails)) (entry 0 ok ∷ []) ok

@@ -1,6 +1,9 @@
--- Figure 2 of the report (TR-070011), line by line, over runs whose entries name their leaf. `Forward P r s U` is the report's
--- (r⟨s⟩, U) ∈ Π(P): P runs r forward, with the status s, and U is its undo (the report's compensation process). `Complete P r s` is
--- r⟨s⟩ ∈ ⟦P⟧: a complete run of P. Nothing here limits how deep undos go.
+-- Figure 2 of the report (TR-070011), line by line, as document 02 amends it, over runs whose entries name their leaf. `Forward P r s U` is
+-- the report's (r⟨s⟩, U) ∈ Π(P): P runs r forward, with the status s, and U is its undo (the report's compensation process).
+-- `Complete P r s` is r⟨s⟩ ∈ ⟦P⟧: a complete run of P. Nothing here limits how deep undos go.
+--
+-- Document 02 (N6) takes the last two sets of the report's rule for P ∥ Q away: both sides begin. An undo P′ ∥ Q′ is a process like any
+-- other, so its branches both begin too.
 use mathlib.Core.List.{List, [], _∷_, _++_}
 use mathlib.Core.Path.{_≡_}
 use Prim.Native.Nat.{ℕ}
@@ -27,12 +30,8 @@ mutual
     f-sequence : {P Q P′ Q′ : Process} {p q r : Run} {s : Status} → Forward P p ok P′ → Forward Q q s Q′ → p ++ q ≡ r → Forward (node sequence P Q) r s (node sequence Q′ P′)
     -- P ; Q, second set: (p⟨×⟩, P′) ∈ Π(P)
     f-sequence-fails : {P Q P′ : Process} {p : Run} → Forward P p fail P′ → Forward (node sequence P Q) p fail P′
-    -- P ∥ Q, first set: (r⟨s & t⟩, P′ ∥ Q′) for r ∈ p ⋈ q, (p⟨s⟩, P′) ∈ Π(P), (q⟨t⟩, Q′) ∈ Π(Q)
+    -- P ∥ Q, the first set and, by N6, the only one: (r⟨s & t⟩, P′ ∥ Q′) for r ∈ p ⋈ q, (p⟨s⟩, P′) ∈ Π(P), (q⟨t⟩, Q′) ∈ Π(Q)
     f-parallel : {P Q P′ Q′ : Process} {p q r : Run} {s t u : Status} → Forward P p s P′ → Forward Q q t Q′ → Interleaving p q r → both s t ≡ u → Forward (node parallel P Q) r u (node parallel P′ Q′)
-    -- P ∥ Q, second set: (p⟨×⟩, P′) ∈ Π(P); the right side never began
-    f-parallel-left : {P Q P′ : Process} {p : Run} → Forward P p fail P′ → Forward (node parallel P Q) p fail P′
-    -- P ∥ Q, third set: (q⟨×⟩, Q′) ∈ Π(Q); the left side never began
-    f-parallel-right : {P Q Q′ : Process} {q : Run} → Forward Q q fail Q′ → Forward (node parallel P Q) q fail Q′
     -- P □ Q, first set: (p⟨s⟩, P′) ∈ Π(P)
     f-choice-left : {P Q P′ : Process} {p : Run} {s : Status} → Forward P p s P′ → Forward (node choice P Q) p s P′
     -- P □ Q, second set: (q⟨t⟩, Q′) ∈ Π(Q)

@@ -3,7 +3,7 @@
 use mathlib.Core.Path.{_≡_, refl}
 use mathlib.Core.List.{[], _∷_, append-nil}
 use Rattle.process.specs.Process.{Status, ok, fail, Form, Process, done, leaf, node, Run}
-use Rattle.process.specs.Figure2.{both, Interleaving, neither, from-left, from-right, Forward, f-done, f-sequence, f-sequence-fails, f-parallel, f-parallel-left, f-parallel-right, Complete, c-ok, c-fail}
+use Rattle.process.specs.Figure2.{both, Interleaving, neither, from-left, from-right, Forward, f-done, f-sequence, f-sequence-fails, f-parallel, Complete, c-ok, c-fail}
 use Rattle.runs.proofs.Marked.{Marked, fresh, Pairing, in-sequence, in-parallel, joined}
 
 pub interleave-nil : (p : Run) → Interleaving p [] p
@@ -53,15 +53,11 @@ alike-forward (via a b) f = let (N, g, i) = alike-forward a f in let (M, h, j) =
 alike-forward (sides in-sequence a b) (f-sequence f g e) = let (N, x, i) = alike-forward a f in let (M, y, j) = alike-forward b g in (_, f-sequence x y e, sides in-sequence j i)
 alike-forward (sides in-sequence a b) (f-sequence-fails f) = let (N, x, i) = alike-forward a f in (_, f-sequence-fails x, i)
 alike-forward (sides in-parallel a b) (f-parallel f g m e) = let (N, x, i) = alike-forward a f in let (M, y, j) = alike-forward b g in (_, f-parallel x y m e, sides in-parallel i j)
-alike-forward (sides in-parallel a b) (f-parallel-left f) = let (N, x, i) = alike-forward a f in (_, f-parallel-left x, i)
-alike-forward (sides in-parallel a b) (f-parallel-right g) = let (M, y, j) = alike-forward b g in (_, f-parallel-right y, j)
 alike-forward (drop-left in-sequence) (f-sequence f-done g e) = rw (← e) (_, g, drop-right in-sequence)
 alike-forward (drop-left in-parallel) (f-parallel f-done g m e) = rw (← e, nil-interleave-is m) (_, g, drop-left in-parallel)
-alike-forward (drop-left in-parallel) (f-parallel-right g) = (_, g, alike)
 alike-forward (drop-right in-sequence) (f-sequence f f-done e) = rw (← e, append-nil) (_, f, drop-left in-sequence)
 alike-forward (drop-right in-sequence) (f-sequence-fails f) = (_, f, alike)
 alike-forward (drop-right in-parallel) (f-parallel {s = s} f f-done m e) = rw (← e, both-ok s, interleave-nil-is m) (_, f, drop-right in-parallel)
-alike-forward (drop-right in-parallel) (f-parallel-left f) = (_, f, alike)
 alike-forward (add-left in-sequence) f = (_, f-sequence f-done f refl, add-right in-sequence)
 alike-forward (add-left in-parallel) f = (_, f-parallel f-done f (nil-interleave _) refl, add-left in-parallel)
 alike-forward {s = ok} (add-right in-sequence) f = (_, f-sequence f f-done (append-nil _), add-left in-sequence)

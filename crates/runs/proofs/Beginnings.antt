@@ -1,6 +1,6 @@
 -- The theorem of specs/Beginnings: the tree that a beginning reaches is the process with the outcomes that the run has set, the cells
 -- show that tree, and its steps and ends are those of the runs.
-use mathlib.Core.Path.{_≡_, refl, _∙_, ap₂}
+use mathlib.Core.Path.{_≡_, refl, sym, _∙_, ap₂}
 use mathlib.Core.List.{[], _∷_, _++_, append-assoc, append-nil}
 use mathlib.Core.Logic.{_⊎_, inl, inr, _↔_}
 use Prim.Native.Nat.{ℕ}
@@ -17,6 +17,9 @@ use Rattle.runs.proofs.Reached.{reach-fresh}
 use Rattle.runs.proofs.Whole.{join, split, reach-steps, WholeRuns}
 use Rattle.runs.proofs.Forms.{permitted, all-runs}
 use Rattle.runs.proofs.Counts.{complete-length, complete-once}
+use Rattle.runs.proofs.Endings.{ending-one}
+use Rattle.runs.proofs.Leaves.{holds-none}
+use Rattle.runs.proofs.Over.{over}
 use Rattle.runs.proofs.Shown.{markedBy, unmarked-by, Fits, Goes, ShowsAll, shows, next-iff, ended-iff}
 use Rattle.process.specs.Leaves.{AsWritten, HasLeaf, LeafPermits, Distinct}
 
@@ -132,6 +135,18 @@ module _ (k : ℕ) (P : Process) (g : Within k P) where
   goes w ([], s, c) = inl (s, ends-told w ([], s, c) s .1 (rw append-nil at c))
   goes w (entry n t ∷ z, s, c) = inr (n, nexts w (entry n t ∷ z, s, c) n t .0 (z, s, rw append-assoc c) .0)
 
+  ended : (w : Run) (s : Status) → toldEnded k P w ≡ ending s → toldNext k P w ≡ 0
+  ended w s h = over k (after w) P (g .written) s h
+
+  alone : (w z : Run) (s t : Status) → Complete P w s → Complete P (w ++ z) t → (z ≡ []) × (s ≡ t)
+  alone w [] s t c d =
+      let b : Begins P w = ([], t, d) in
+      (refl, ending-one s t (sym (ends-told w b s .1 c) ∙ ends-told w b t .1 (rw append-nil at d)))
+  alone w (entry n u ∷ z) s t c d =
+      let b : Begins P w = (entry n u ∷ z, t, d) in
+      let h = nexts w b n u .0 (z, t, rw append-assoc d) .0 in
+      absurd (holds-none n (rw (ended w s (ends-told w b s .1 c)) at h))
+
   pub told : Beginnings k P
   told = record {
     start = begins [] still;
@@ -141,6 +156,8 @@ module _ (k : ℕ) (P : Process) (g : Within k P) where
     ends = λ w b s. ends-told w b s;
     reaches = λ w b. (b .0, b .1, b .2, complete-length w (b .0) (b .2));
     goes-on = λ w b. goes w b;
+    over = ended;
+    no-prefix = alone;
     once = λ w b n. complete-once n w (b .0) (g .distinct) (b .2);
   }
 

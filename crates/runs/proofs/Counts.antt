@@ -11,7 +11,7 @@ use lib.Dec.{eqb, ltb}
 use lib.ListN.{length}
 use borrow.Author.Tests.{eqb-true, ltb-true, ltb-false}
 use Rattle.process.specs.Process.{Status, Process, done, leaf, node, entry, Run}
-use Rattle.process.specs.Figure2.{Interleaving, neither, from-left, from-right, Forward, f-done, f-leaf, f-sequence, f-sequence-fails, f-parallel, f-parallel-left, f-parallel-right, f-choice-left, f-choice-right, f-compensation, f-compensation-fails, f-handler, f-handler-fails, Complete, c-ok, c-fail}
+use Rattle.process.specs.Figure2.{Interleaving, neither, from-left, from-right, Forward, f-done, f-leaf, f-sequence, f-sequence-fails, f-parallel, f-choice-left, f-choice-right, f-compensation, f-compensation-fails, f-handler, f-handler-fails, Complete, c-ok, c-fail}
 use Rattle.runs.specs.Beginnings.{sumOfLeaves, sumOfRun, leafCount, occurrences}
 use Rattle.process.specs.Leaves.{HasLeaf, Distinct}
 
@@ -35,8 +35,6 @@ module _ (number : ℕ → ℕ) where
     forward-sum (f-sequence {p = p} {q = q} a b e) = omega (arith, forward-sum a, forward-sum b, joined-sum p q e)
     forward-sum (f-sequence-fails a) = omega (arith, forward-sum a)
     forward-sum (f-parallel a b i e) = omega (arith, forward-sum a, forward-sum b, interleaved-sum i)
-    forward-sum (f-parallel-left a) = omega (arith, forward-sum a)
-    forward-sum (f-parallel-right b) = omega (arith, forward-sum b)
     forward-sum (f-choice-left a) = omega (arith, forward-sum a)
     forward-sum (f-choice-right b) = omega (arith, forward-sum b)
     forward-sum (f-compensation a) = omega (arith, forward-sum a)

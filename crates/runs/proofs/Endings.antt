@@ -2,9 +2,10 @@
 use mathlib.Core.Path.{_≡_, refl, sym, _∙_, ap}
 use mathlib.Core.Bool.{Bool, true, false, not, _||_, true≢false}
 use Rattle.process.specs.Process.{Status, ok, fail}
+use Rattle.process.specs.Figure2.{both}
 use Rattle.runs.specs.declared.Ended.{Ended}
 use Rattle.runs.specs.declared.Ended.the-variants.{Open, Succeeded, Failed}
-use Rattle.runs.specs.Cells.{ending, isSucceeded, isFailed}
+use Rattle.runs.specs.Cells.{ending, isSucceeded, isFailed, parallelEnded}
 
 abbrev pub hasRun : Ended → Bool
 hasRun Open = false
@@ -51,3 +52,18 @@ pub of-failed : (x : Ended) → isFailed x ≡ true → x ≡ Failed
 of-failed Open e = not-both e refl
 of-failed Succeeded e = not-both e refl
 of-failed Failed e = refl
+
+-- A parallel that has ended: both sides have.
+pub record ParallelEnds (x y : Ended) (u : Status) : Type 0 where
+  pub left : Status
+  pub right : Status
+  pub left-ends : x ≡ ending left
+  pub right-ends : y ≡ ending right
+  pub is-both : both left right ≡ u
+
+pub parallel-ends : (x y : Ended) (u : Status) → parallelEnded x y ≡ ending u → ParallelEnds x y u
+parallel-ends Open y u h = not-open u refl h
+parallel-ends Succeeded y u h = record { left = ok; right = u; left-ends = refl; right-ends = h; is-both = refl }
+parallel-ends Failed Open u h = not-open u refl h
+parallel-ends Failed Succeeded u h = record { left = fail; right = ok; left-ends = refl; right-ends = refl; is-both = ending-one fail u h }
+parallel-ends Failed Failed u h = record { left = fail; right = fail; left-ends = refl; right-ends = refl; is-both = ending-one fail u h }

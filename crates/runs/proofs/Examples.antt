@@ -1,10 +1,11 @@
--- Worked examples of the cells: the report's SimpleOrder, and a plan with a compensation in an undo side.
+-- Worked examples of the cells: the report's SimpleOrder, two sides of a parallel and of its undo, and a plan with a compensation in an
+-- undo side.
 use mathlib.Core.Path.{_≡_, refl}
 use mathlib.Core.List.{[], _∷_, _++_}
 use mathlib.Core.Logic.{_⊎_, inl, inr}
 use Prim.Native.Nat.{ℕ}
 use native.Mathlib.Omega.{arith}
-use Rattle.process.proofs.Examples.{simpleOrder}
+use Rattle.process.proofs.Examples.{simpleOrder, beside, undoneBeside}
 use Rattle.process.specs.Process.{ok, fail, finishes, fails, either, sequence, compensation, Process, leaf, node, entry, Run}
 use Rattle.process.specs.Figure2.{f-done, f-leaf, f-sequence, f-compensation, Complete, c-ok, c-fail}
 use Rattle.runs.specs.declared.Ended.the-variants.{Open, Succeeded, Failed}
@@ -38,6 +39,20 @@ order-told = beginnings 1 simpleOrder ((tt, tt), tt) ((tt, tt, λ n h i. omega a
     apart : {n : ℕ} → (n ≡ 0) ⊎ (n ≡ 1) → n ≡ 3 → ⊥
     apart (inl h) i = omega arith
     apart (inr h) i = omega arith
+
+-- Document 01's P3, a throw beside an action: where the throw has come the run may not end, and the action, leaf 1, is next.
+beside-waits : (toldNext 1 beside (entry 0 fail ∷ []) ≡ 2) × (toldEnded 1 beside (entry 0 fail ∷ []) ≡ Open)
+beside-waits = (refl, refl)
+
+-- Two undos side by side, of which one, leaf 1, has failed: the other, leaf 3, is still to come.
+abbrev half-undone : Run
+half-undone = entry 0 ok ∷ entry 2 ok ∷ entry 4 fail ∷ entry 1 fail ∷ []
+
+undos-wait : (toldNext 1 (undoneBeside fails finishes) half-undone ≡ 8) × (toldEnded 1 (undoneBeside fails finishes) half-undone ≡ Open)
+undos-wait = (refl, refl)
+
+undos-end : (toldNext 1 (undoneBeside fails finishes) (half-undone ++ (entry 3 ok ∷ [])) ≡ 0) × (toldEnded 1 (undoneBeside fails finishes) (half-undone ++ (entry 3 ok ∷ [])) ≡ Failed)
+undos-end = (refl, refl)
 
 -- A compensation in an undo side: A ÷ ((B ÷ C) ; throw) ; D. Where D fails the undo B ; throw runs, fails, and is itself undone by C.
 abbrev deep : Process

@@ -6,13 +6,13 @@ use mathlib.Core.Bool.{Bool, true, false, not, cond}
 use mathlib.Core.Logic.{inl, inr}
 use Prim.Native.Nat.{ℕ, zero, suc}
 use Rattle.process.specs.Process.{Status, ok, fail, Kind, finishes, fails, either, Permits, Form, sequence, parallel, choice, compensation, handler, Process, done, leaf, node, Run}
-use Rattle.process.specs.Figure2.{both, Interleaving, Forward, f-leaf, f-sequence, f-sequence-fails, f-parallel, f-parallel-left, f-parallel-right, f-choice-left, f-choice-right, f-compensation, f-compensation-fails, f-handler, f-handler-fails, Complete, c-fail}
+use Rattle.process.specs.Figure2.{both, Interleaving, Forward, f-leaf, f-sequence, f-sequence-fails, f-parallel, f-choice-left, f-choice-right, f-compensation, f-compensation-fails, f-handler, f-handler-fails, Complete, c-fail}
 use Rattle.runs.specs.declared.Ended.{Ended}
 use Rattle.runs.specs.declared.Ended.the-variants.{Open, Succeeded, Failed}
 use Rattle.runs.specs.Cells.{ending, sequenceEnded, parallelEnded, handlerEnded}
-use Rattle.runs.proofs.Endings.{not-open, ending-one}
+use Rattle.runs.proofs.Endings.{not-open, ending-one, ParallelEnds, parallel-ends}
 use Rattle.runs.proofs.Marked.{Marked, m-done, m-node, fresh, unmarked, hasBegun, endedAs, in-sequence, in-parallel, undo, WholeEnds, ends-ok, Mode, forward, whole, at-leaf, Steps, still, first, in-turn, Reached, r-waits, r-leaf, r-left, r-both, r-going, r-undoing}
-use Rattle.runs.proofs.Alike.{interleave-nil, nil-interleave, interleave-nil-is, nil-interleave-is, alike, joined-stands}
+use Rattle.runs.proofs.Alike.{interleave-nil, alike, joined-stands}
 use Rattle.runs.proofs.Undo.{Within, left-within, right-within, UndoWithin, joined-done}
 use Rattle.runs.proofs.Reached.{unmarked-fresh, fresh-begun, fresh-open, fresh-undo, reach-fresh, not-begun, interleave-append, interleaved, whole-failed}
 use Rattle.runs.proofs.Whole.{join, joins, reach-steps, steps-left, steps-right, steps-both, steps-going, RunsTo, RanTo, CanEnd, ForwardRuns, WholeRuns, whole-runs, whole-done}
@@ -49,29 +49,10 @@ ended-begun {Q = Q} {B = B} s w r h = by (hasBegun B) refl
     by false e = not-open s (ap endedAs (not-begun r e .1) ∙ fresh-open Q w) h
 
 -- How a parallel ends.
-both-ended : (s t : Status) (a b : Bool) → parallelEnded (ending s) a (ending t) b ≡ ending (both s t)
-both-ended ok ok a b = refl
-both-ended ok fail a b = refl
-both-ended fail ok a b = refl
-both-ended fail fail a b = refl
-
-data ParallelEnds (x : Ended) (a : Bool) (y : Ended) (b : Bool) (u : Status) : Type 0 where
-  both-do : (s t : Status) → x ≡ ending s → y ≡ ending t → both s t ≡ u → ParallelEnds x a y b u
-  left-does : x ≡ Failed → b ≡ false → fail ≡ u → ParallelEnds x a y b u
-  right-does : y ≡ Failed → a ≡ false → fail ≡ u → ParallelEnds x a y b u
-
-parallel-ends : (x : Ended) (a : Bool) (y : Ended) (b : Bool) (u : Status) → parallelEnded x a y b ≡ ending u → ParallelEnds x a y b u
-parallel-ends Open a Open b u h = not-open u refl h
-parallel-ends Open a Succeeded b u h = not-open u refl h
-parallel-ends Open false Failed b u h = right-does refl refl (ending-one fail u h)
-parallel-ends Open true Failed b u h = not-open u refl h
-parallel-ends Succeeded a Open b u h = not-open u refl h
-parallel-ends Succeeded a Succeeded b u h = both-do ok ok refl refl (ending-one ok u h)
-parallel-ends Succeeded a Failed b u h = both-do ok fail refl refl (ending-one fail u h)
-parallel-ends Failed a Open false u h = left-does refl refl (ending-one fail u h)
-parallel-ends Failed a Open true u h = not-open u refl h
-parallel-ends Failed a Succeeded b u h = both-do fail ok refl refl (ending-one fail u h)
-parallel-ends Failed a Failed b u h = both-do fail fail refl refl (ending-one fail u h)
+both-ended : (s t : Status) → parallelEnded (ending s) (ending t) ≡ ending (both s t)
+both-ended ok t = refl
+both-ended fail ok = refl
+both-ended fail fail = refl
 
 module _ {P Q : Process} (wP : AsWritten P) (wQ : AsWritten Q) (FP : ForwardRuns P) where
   compensation-runs : ForwardRuns (node compensation P Q)
@@ -131,33 +112,23 @@ module _ {P Q : Process} (wP : AsWritten P) (wQ : AsWritten Q) (FP : ForwardRuns
         tos (f-parallel {s = s} {t = t} a b m e) =
             let (A, r, h, u) = FP .to a in
             let (B, r′, i, v) = FQ .to b in
-            (m-node parallel A B, steps-both m r r′, rw (h, i) (both-ended s t (hasBegun A) (hasBegun B) ∙ ap ending e), joined-stands in-parallel u v)
-        tos (f-parallel-left a) = let (A, r, h, u) = FP .to a in (m-node parallel A (fresh Q), steps-both (interleave-nil _) r still, rw (h, fresh-open Q wQ, fresh-begun Q), rw (fresh-undo Q wQ, joined-done parallel (undo A)) u)
-        tos (f-parallel-right b) = let (B, r, h, u) = FQ .to b in (m-node parallel (fresh P) B, steps-both (nil-interleave _) still r, rw (h, fresh-open P wP, fresh-begun P), rw (fresh-undo P wP) u)
+            (m-node parallel A B, steps-both m r r′, rw (h, i) (both-ended s t ∙ ap ending e), joined-stands in-parallel u v)
 
-        by : {A B : Marked} {p q r : Run} {u : Status} → Interleaving p q r → Reached forward P p A → Reached forward Q q B → ParallelEnds (endedAs A) (hasBegun A) (endedAs B) (hasBegun B) u → RanTo (node parallel P Q) r u (m-node parallel A B)
-        by m c d (both-do s t h i e) =
-            let (P′, a, u) = FP .from s c h in
-            let (Q′, b, v) = FQ .from t d i in
-            (_, f-parallel a b m e, joined-stands in-parallel u v)
-        by {A = A} m c d (left-does h i e) =
-            let (P′, a, u) = FP .from fail c h in
-            let z = not-begun d i in
-            rw (← e, interleave-nil-is (rw (z .0) at m), z .1) (P′, f-parallel-left a, rw (fresh-undo Q wQ, joined-done parallel (undo A)) u)
-        by m c d (right-does h i e) =
-            let (Q′, b, u) = FQ .from fail d h in
-            let z = not-begun c i in
-            rw (← e, nil-interleave-is (rw (z .0) at m), z .1) (Q′, f-parallel-right b, rw (fresh-undo P wP) u)
+        by : {A B : Marked} {p q r : Run} {u : Status} → Interleaving p q r → Reached forward P p A → Reached forward Q q B → ParallelEnds (endedAs A) (endedAs B) u → RanTo (node parallel P Q) r u (m-node parallel A B)
+        by m c d x =
+            let (P′, a, u) = FP .from (x .left) c (x .left-ends) in
+            let (Q′, b, v) = FQ .from (x .right) d (x .right-ends) in
+            (_, f-parallel a b m (x .is-both), joined-stands in-parallel u v)
 
         froms : {p : Run} (s : Status) {T : Marked} → Reached forward (node parallel P Q) p T → endedAs T ≡ ending s → RanTo (node parallel P Q) p s T
-        froms s (r-left {A = A} r) h = by (interleave-nil _) r (reach-fresh Q) (parallel-ends (endedAs A) (hasBegun A) (endedAs (fresh Q)) (hasBegun (fresh Q)) s h)
-        froms s (r-both {A = A} {B = B} g r t m) h = by (interleaved m) r t (parallel-ends (endedAs A) (hasBegun A) (endedAs B) (hasBegun B) s h)
+        froms s (r-left {A = A} r) h = by (interleave-nil _) r (reach-fresh Q) (parallel-ends (endedAs A) (endedAs (fresh Q)) s h)
+        froms s (r-both {A = A} {B = B} g r t m) h = by (interleaved m) r t (parallel-ends (endedAs A) (endedAs B) s h)
 
         go-both : {A B : Marked} {p q : Run} → Reached forward P p A → Reached forward Q q B → CanEnd (m-node parallel A B)
         go-both c d =
             let (z, A, s, a, h) = FP .go c in
             let (v, B, t, b, i) = FQ .go d in
-            (z ++ v, m-node parallel A B, both s t, steps-both (interleave-append z v) a b, rw (h, i) (both-ended s t (hasBegun A) (hasBegun B)))
+            (z ++ v, m-node parallel A B, both s t, steps-both (interleave-append z v) a b, rw (h, i) (both-ended s t))
 
         gos : {p : Run} {T : Marked} → Reached forward (node parallel P Q) p T → CanEnd T
         gos (r-left r) = go-both r (reach-fresh Q)

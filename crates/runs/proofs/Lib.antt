@@ -8,6 +8,7 @@ pub mod Forms
 pub mod Leaves
 pub mod Shown
 pub mod Counts
+pub mod Over
 pub mod Beginnings
 pub mod TwoLevels
 pub mod Examples

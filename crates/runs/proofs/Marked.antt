@@ -37,7 +37,7 @@ hasBegun (m-node f A B) = nodeBegun f (hasBegun A) (hasBegun B)
 abbrev pub endedAs : Marked → Ended
 endedAs m-done = Succeeded
 endedAs (m-leaf n k o) = o
-endedAs (m-node f A B) = nodeEnded f (endedAs A) (hasBegun A) (endedAs B) (hasBegun B)
+endedAs (m-node f A B) = nodeEnded f (endedAs A) (endedAs B) (hasBegun B)
 
 abbrev pub isDone : Marked → Bool
 isDone m-done = true

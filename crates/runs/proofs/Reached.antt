@@ -23,7 +23,7 @@ unmarked-fresh (node f P Q) = rw (unmarked-fresh P, unmarked-fresh Q)
 -- The start.
 record Starts (f : Form) : Type 0 where
   not-begun : nodeBegun f false false ≡ false
-  is-open : nodeEnded f Open false Open false ≡ Open
+  is-open : nodeEnded f Open Open false ≡ Open
   no-undo : (B : Marked) → nodeUndone f Open B m-done m-done ≡ m-done
 
 starts : (f : Form) → Starts f
@@ -41,7 +41,7 @@ fresh-begun (node f P Q) = rw (fresh-begun P, fresh-begun Q) (starts f .not-begu
 pub fresh-open : (P : Process) → AsWritten P → endedAs (fresh P) ≡ Open
 fresh-open done w = absurd w
 fresh-open (leaf n k) w = refl
-fresh-open (node f P Q) w = rw (fresh-open P (w .0), fresh-open Q (w .1), fresh-begun P, fresh-begun Q) (starts f .is-open)
+fresh-open (node f P Q) w = rw (fresh-open P (w .0), fresh-open Q (w .1), fresh-begun Q) (starts f .is-open)
 
 pub fresh-undo : (P : Process) → AsWritten P → undo (fresh P) ≡ m-done
 fresh-undo done w = absurd w
@@ -58,16 +58,12 @@ reach-fresh (leaf n k) = r-waits
 reach-fresh (node f P Q) = r-left (in-mode (leftMode f) (reach-fresh P))
 
 -- A tree that has failed has begun.
-node-failed : (f : Form) (x : Ended) (a : Bool) (y : Ended) (b : Bool) → (x ≡ Failed → a ≡ true) → (y ≡ Failed → b ≡ true) → nodeEnded f x a y b ≡ Failed → nodeBegun f a b ≡ true
+node-failed : (f : Form) (x : Ended) (a : Bool) (y : Ended) (b : Bool) → (x ≡ Failed → a ≡ true) → (y ≡ Failed → b ≡ true) → nodeEnded f x y b ≡ Failed → nodeBegun f a b ≡ true
 node-failed sequence Open a y b h i e = not-open fail refl e
 node-failed sequence Succeeded a y b h i e = rw (i e) (or-true a)
 node-failed sequence Failed a y b h i e = rw (h refl)
-node-failed parallel Open a Open b h i e = not-open fail refl e
-node-failed parallel Open a Succeeded b h i e = not-open fail refl e
-node-failed parallel Open a Failed b h i e = rw (i refl) (or-true a)
-node-failed parallel Succeeded a Open b h i e = not-open fail refl e
-node-failed parallel Succeeded a Succeeded b h i e = not-failed refl e
-node-failed parallel Succeeded a Failed b h i e = rw (i refl) (or-true a)
+node-failed parallel Open a y b h i e = not-open fail refl e
+node-failed parallel Succeeded a y b h i e = rw (i e) (or-true a)
 node-failed parallel Failed a y b h i e = rw (h refl)
 node-failed choice x a y true h i e = or-true a
 node-failed choice x a y false h i e = rw (h e)

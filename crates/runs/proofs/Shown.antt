@@ -76,7 +76,7 @@ module _ (n : ℕ) (s : Status) where
   shows-node f x-over x-next {x} {y} {A} {B} S Z L R = record {
     same-empty = refl;
     same-begun = rw (S .same-begun, Z .same-begun);
-    same-ended = rw (S .same-begun, Z .same-begun, S .same-ended, Z .same-ended);
+    same-ended = rw (Z .same-begun, S .same-ended, Z .same-ended);
     same-next = (
       λ h. union-holds n (leftMay f (y .begun)) (rightMay f (x .ended) (x .begun) x-over) x-next (y .next) h
           (λ g i. (_, on-left (rw (Z .same-begun) at g) (L .0 i .1)))

@@ -149,7 +149,7 @@ module _ (n : ℕ) (s : Status) where
 
   stands-node : (f : Form) (A B : Marked) → Stands A → Stands B → Stands (m-node f A B)
   stands-node f A B a b = record {
-    same-end = rw (a .same-end, b .same-end, a .same-begun, b .same-begun);
+    same-end = rw (a .same-end, b .same-end, b .same-begun);
     same-begun = rw (a .same-begun, b .same-begun);
     new-undo = rw (a .same-end, a .new-undo, b .new-undo) (mark-undone f (endedAs A) B (undo A) (undo B));
   }

@@ -50,6 +50,10 @@ pub record Beginnings (depth : ℕ) (P : Process) : Type 0 where
   pub reaches : (w : Run) → Begins P w → (z : Run) × (s : Status) × Complete P (w ++ z) s × (length w + length z ≤ leafCount P)
   -- the run may end here, or some leaf is told as next
   pub goes-on : (w : Run) → Begins P w → ((s : Status) × (toldEnded depth P w ≡ ending s)) ⊎ ((n : ℕ) × Holds (toldNext depth P w) n)
+  -- and never both: where the run may end, no leaf is told as next
+  pub over : (w : Run) (s : Status) → toldEnded depth P w ≡ ending s → toldNext depth P w ≡ 0
+  -- the same of runs: no complete run is a proper beginning of another, and it has one status
+  pub no-prefix : (w z : Run) (s t : Status) → Complete P w s → Complete P (w ++ z) t → (z ≡ []) × (s ≡ t)
   -- "a leaf occurs at most once in a run": in a beginning, and so in a complete run
   pub once : (w : Run) → Begins P w → (n : ℕ) → occurrences n w ≤ 1
 

@@ -83,24 +83,13 @@ sequenceEnded Open y = Open
 sequenceEnded Succeeded y = y
 sequenceEnded Failed y = Failed
 
--- How a parallel has ended of which one side has failed and the other has not begun: "the other may also never have begun", the second
--- and the third set of the figure's rule.
-abbrev pub oneSide : Ended
-oneSide = Failed
-
--- How a parallel has ended: "it succeeds if both do".
-abbrev pub parallelEnded : Ended → Bool → Ended → Bool → Ended
-parallelEnded Open x Open y = Open
-parallelEnded Open x Succeeded y = Open
-parallelEnded Open false Failed y = oneSide
-parallelEnded Open true Failed y = Open
-parallelEnded Succeeded x Open y = Open
-parallelEnded Succeeded x Succeeded y = Succeeded
-parallelEnded Succeeded x Failed y = Failed
-parallelEnded Failed x Open false = oneSide
-parallelEnded Failed x Open true = Open
-parallelEnded Failed x Succeeded y = Failed
-parallelEnded Failed x Failed y = Failed
+-- How a parallel has ended: both sides begin, so that both have to end; "it succeeds if both do".
+abbrev pub parallelEnded : Ended → Ended → Ended
+parallelEnded Open y = Open
+parallelEnded Succeeded y = y
+parallelEnded Failed Open = Open
+parallelEnded Failed Succeeded = Failed
+parallelEnded Failed Failed = Failed
 
 -- How a handler has ended: the right side runs "if the left fails".
 abbrev pub handlerEnded : Ended → Ended → Ended
@@ -108,13 +97,13 @@ handlerEnded Open y = Open
 handlerEnded Succeeded y = Succeeded
 handlerEnded Failed y = y
 
--- How a composite has ended, from how its sides have ended and whether they have begun.
-abbrev pub nodeEnded : Form → Ended → Bool → Ended → Bool → Ended
-nodeEnded sequence x x-begun y y-begun = sequenceEnded x y
-nodeEnded parallel x x-begun y y-begun = parallelEnded x x-begun y y-begun
-nodeEnded choice x x-begun y y-begun = cond y-begun y x
-nodeEnded compensation x x-begun y y-begun = x
-nodeEnded handler x x-begun y y-begun = handlerEnded x y
+-- How a composite has ended, from how its sides have ended and whether the right has begun.
+abbrev pub nodeEnded : Form → Ended → Ended → Bool → Ended
+nodeEnded sequence x y y-begun = sequenceEnded x y
+nodeEnded parallel x y y-begun = parallelEnded x y
+nodeEnded choice x y y-begun = cond y-begun y x
+nodeEnded compensation x y y-begun = x
+nodeEnded handler x y y-begun = handlerEnded x y
 
 -- May the left side go on, by whether the right has begun?
 abbrev pub leftMay : Form → Bool → Bool
@@ -137,7 +126,7 @@ abbrev pub nodeCell : Form → Cell → Cell → ℕ → Bool → Cell
 nodeCell f x y x-next x-over = record {
   empty = false;
   begun = nodeBegun f (x .begun) (y .begun);
-  ended = nodeEnded f (x .ended) (x .begun) (y .ended) (y .begun);
+  ended = nodeEnded f (x .ended) (y .ended) (y .begun);
   next = bitOr (given (leftMay f (y .begun)) x-next) (given (rightMay f (x .ended) (x .begun) x-over) (y .next));
 }
 

@@ -4,24 +4,18 @@ use mathlib.Core.Bool.{false≢true}
 use mathlib.Core.List.{List, [], _∷_, _++_, append-nil, List·Memᴰ, List·Memᴰ·head, List·Memᴰ·tail}
 use Prim.Native.Nat.{ℕ}
 use native.Mathlib.Omega.{arith}
-use Rattle.process.specs.Process.{Status, ok, fail, finishes, fails, either, sequence, parallel, handler, Process, done, leaf, node, entry, Run}
+use Rattle.process.specs.Process.{Status, ok, fail, finishes, either, sequence, handler, Process, done, leaf, node, entry, Run}
 use Rattle.process.specs.Figure2.{
   Forward,
   f-done,
   f-leaf,
   f-sequence,
   f-sequence-fails,
-  f-parallel,
-  f-parallel-left,
-  f-parallel-right,
   f-handler,
   f-handler-fails,
   Complete,
   c-ok,
   c-fail,
-  neither,
-  from-left,
-  from-right,
 }
 
 -- finished is not failed
@@ -39,12 +33,6 @@ sequence-done : {r : Run} {s : Status} → Complete (node sequence done done) r 
 sequence-done (c-ok (f-sequence f-done f-done e)) = sym e
 sequence-done (c-fail (f-sequence f g e) c j) = absurd (apart (done-ok g))
 sequence-done (c-fail (f-sequence-fails f) c j) = absurd (apart (done-ok f))
-
-parallel-done : {r : Run} {s : Status} → Complete (node parallel done done) r s → r ≡ []
-parallel-done (c-ok (f-parallel f-done f-done neither b)) = refl
-parallel-done (c-fail (f-parallel f-done f-done i b) c j) = absurd (apart b)
-parallel-done (c-fail (f-parallel-left f) c j) = absurd (apart (done-ok f))
-parallel-done (c-fail (f-parallel-right f) c j) = absurd (apart (done-ok f))
 
 then-nothing : (w p p′ r : Run) → p ≡ w → p′ ≡ [] → p ++ p′ ≡ r → r ≡ w
 then-nothing w p p′ r e n j = sym j ∙ rw (e, n) (append-nil w)
@@ -84,25 +72,6 @@ pub complete2 : {r : Run} {s : Status} → Complete process2 r s → List·Mem�
 complete2 (c-ok (f-sequence f (f-leaf g) e)) = ok-listed _ _ (handled f .0) e
 complete2 (c-fail (f-sequence f (f-leaf g) e) c j) = fail-listed _ _ _ _ (handled f .0) e (no-undo _ _ _ (handled f .2) c) j
 complete2 (c-fail (f-sequence-fails f) c j) = absurd (apart (handled f .1))
-
--- P3: throw 0 in parallel with 1, which always finishes
-abbrev pub process3 : Process
-process3 = node parallel (leaf 0 fails) (leaf 1 finishes)
-
-abbrev pub runs3 : List Run
-runs3 = (entry 0 fail ∷ []) ∷ (entry 0 fail ∷ entry 1 ok ∷ []) ∷ (entry 1 ok ∷ entry 0 fail ∷ []) ∷ []
-
-pub complete3 : {r : Run} {s : Status} → Complete process3 r s → List·Memᴰ r runs3
-complete3 (c-ok (f-parallel (f-leaf {s = ok} g) (f-leaf h) i b)) = absurd (false≢true g)
-complete3 (c-ok (f-parallel (f-leaf {s = fail} g) (f-leaf h) i b)) = absurd (apart (sym b))
-complete3 (c-fail (f-parallel (f-leaf {s = ok} g) (f-leaf h) i b) c j) = absurd (false≢true g)
-complete3 (c-fail (f-parallel (f-leaf {s = fail} g) (f-leaf {s = fail} h) i b) c j) = absurd (false≢true h)
-complete3 (c-fail (f-parallel (f-leaf {s = fail} g) (f-leaf {s = ok} h) (from-left (from-right neither)) b) c j) =
-    List·Memᴰ·tail (List·Memᴰ·head (then-nothing (entry 0 fail ∷ entry 1 ok ∷ []) _ _ _ refl (parallel-done c) j))
-complete3 (c-fail (f-parallel (f-leaf {s = fail} g) (f-leaf {s = ok} h) (from-right (from-left neither)) b) c j) =
-    List·Memᴰ·tail (List·Memᴰ·tail (List·Memᴰ·head (then-nothing (entry 1 ok ∷ entry 0 fail ∷ []) _ _ _ refl (parallel-done c) j)))
-complete3 (c-fail (f-parallel-left (f-leaf g)) c j) = List·Memᴰ·head (then-nothing (entry 0 fail ∷ []) _ _ _ refl (done-complete c) j)
-complete3 (c-fail (f-parallel-right (f-leaf g)) c j) = absurd (false≢true g)
 
 -- P7: 0 alone, which always finishes
 abbrev pub process7 : Process

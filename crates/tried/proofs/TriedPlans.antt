@@ -33,7 +33,7 @@ use Rattle.judge.proofs.Demand3.{found-answer}
 use Rattle.report.specs.Lines.{entryLines, verdictLines}
 use Rattle.report.specs.Tells.{Tells}
 use Rattle.tried.specs.TriedPlans.{TriedPlan, Holds, p1, p2, p3, p4, p5, p6, p7, p8, triedPlans, TriedPlans}
-use Rattle.tried.proofs.CompleteRuns.{process2, runs2, complete2, process3, runs3, complete3, process7, runs7, complete7, process8, runs8, complete8}
+use Rattle.tried.proofs.CompleteRuns.{process2, runs2, complete2, process7, runs7, complete7, process8, runs8, complete8}
 use Rattle.tried.proofs.ShownLines.{only-run, Told, told-consistent, told-violated, record-length}
 
 abbrev each : {A : Type 0} → (A → Bool) → List A → Bool
@@ -94,7 +94,7 @@ unfolding every total foldFrom ruleFrom shownEntries entryLines digits
 told =
     told-consistent p1 refl refl
     then told-violated p2 2 (entry 0 fail ∷ entry 1 ok ∷ entry 3 ok ∷ []) refl (only-run (p2 .file) process2 runs2 (λ r s c. complete2 c) 2 _ refl refl) refl
-    then told-violated p3 0 (entry 0 fail ∷ []) refl (only-run (p3 .file) process3 runs3 (λ r s c. complete3 c) 0 _ refl refl) refl
+    then told-consistent p3 refl refl
     then told-consistent p4 refl refl
     then told-consistent p5 refl refl
     then told-consistent p6 refl refl

@@ -57,13 +57,13 @@ p2 = record {
   lines = ascii "violated 2\n0 2\n1 1\n3 1\n";
 }
 
--- P3: throw parallel A, A always
+-- P3: throw parallel A, A always; by document 02 (N6) both begin
 abbrev pub p3 : TriedPlan
 p3 = record {
   file = 1 ∷ 0 ∷ 1 ∷ 0 ∷ 1 ∷ 0 ∷ 0 ∷ 2 ∷ 0 ∷ 9 ∷ 0 ∷ 3 ∷ 0 ∷ 2 ∷ 0 ∷ 0 ∷ 0 ∷ 0 ∷ 0 ∷ 4 ∷ 0 ∷ 1 ∷ 1 ∷ 0 ∷ 4 ∷ 0 ∷ 0 ∷ [];
-  sets = 0 ∷ 1 ∷ [];
-  verdict = Violated 0;
-  lines = ascii "violated 0\n0 2\n";
+  sets = 1 ∷ [];
+  verdict = Consistent;
+  lines = ascii "consistent\n";
 }
 
 -- P4: handler with left ((A undo U), throw) and right H; A, H always, U may do either
