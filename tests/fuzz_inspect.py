@@ -3,7 +3,7 @@
 
 MODEL is the folder of the model (plans.py says which). The program must have been built, by `rt check inspect`. One process is run for each
 file, two at a time. The script ends with status 1 at the first file on which the two differ, and prints it. With `one` the files are those that read
-the same where an action has one undo at most and there are nine pairs at most.
+the same where an action has one undo at most and there are nine pairs at most, and that are no plans with a parallel.
 """
 import os
 import random

@@ -4,8 +4,9 @@
 MODEL is the folder of the model (plans.py says which). The program must have been built, by `rt check run`. One process is run for each session.
 Every other session goes line by line, each line sent once the answer to the one before it is there; the others come in pieces that end anywhere.
 About half of all sessions are brought to an end after their lines, in at most as many entries as the plan has leaves that the record does not name.
-The script ends with status 1 at the first session in which the two differ, or in which the model comes to no end, and prints it.
-With `one` the plans are those that read the same where an action has one undo at most and there are nine pairs at most.
+The script ends with status 1 at the first session in which the two differ, or in which the model comes to no end, or tells an end and a leaf that
+comes next, or neither; and prints it. With `one` the plans are those that read the same where an action has one undo at most and there are nine pairs
+at most, and that have no parallel.
 """
 import os
 import random

@@ -5,7 +5,7 @@ MODEL is the folder of the model (plans.py says which). The programs must have b
 model's. A run that is shown must be taken entry by entry by the model's runner, and end there; it must leave the set; of a small plan it is
 held against all runs as well. Then it is offered line by line to the program `run`, which must take every entry and say that the run may end.
 The script ends with status 1 at the first plan in which something differs, and prints it. With `one` the plans are those that read the same where an
-action has one undo at most and there are nine pairs at most.
+action has one undo at most and there are nine pairs at most, and that have no parallel.
 """
 import collections
 import os

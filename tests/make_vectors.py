@@ -4,7 +4,7 @@
 MODEL is the folder of the model (plans.py says which). Written: crates/compare/data/files, runs and verdicts, what each program reads
 and is to write (stdin, stdout, args and data in its crate), the plans of the course, crates/course/data, and the stored cases but those that stand
 for the front door alone, tests/stored and tests/files.
-docs/VECTORS.md has the format. The numbers expected are the model's. Where document 01 names one, the script ends if the model has another.
+docs/VECTORS.md has the format. The numbers expected are the model's. Where the papers name one, the script ends if the model has another.
 Nothing but the seeds below decides what is made, so that a second run writes the same bytes.
 """
 import itertools
@@ -13,7 +13,9 @@ import random
 import sys
 
 from office import MENDED, SWALLOWED, WITHDRAWN
-from plans import SKIP, THROW, TWENTY_ONE, block, blocks_of, damaged, flat, model_in, named, number_of, random_plan, whole
+from parallels import every_run, every_set
+from plans import (CHOICE, COMPENSATION, HANDLER, PARALLEL, SEQUENCE, SKIP, THROW, TWENTY_ONE, block, blocks_of, damaged, flat, model_in, named, number_of,
+                   random_plan, whole)
 from sessions import Model, permitted, random_entries, session_of
 from stored import chart_lines, inspect_lines, stored_cases, verdict_lines
 from verdicts import verdict_vectors
@@ -28,7 +30,6 @@ NAME_ROOM, DATA_ROOM = 64, 1048576
 # the bytes of the largest file, which a job has room for
 MOST_FILE = 384
 
-SEQUENCE, PARALLEL, CHOICE, COMPENSATION, HANDLER = 3, 4, 5, 6, 7
 P1 = bytes.fromhex('03 00 01 00 03 01 03 02 00 02 00 00 01 0F 00 03 00 00 00 00 00 01 00 06 00 01 00 02 00 03 02 03'
                    '09 00 04 00 00 02 81 00 80 02 80 81 82')
 
@@ -74,6 +75,9 @@ def plans_of_document():
 
 
 NESTED = [SKIP, SKIP, (COMPENSATION, 0, 1), SKIP, (COMPENSATION, 3, 2)]
+# (0 with undo 1) in parallel with (2 with undo 3), then a throw; of these 1 alone may fail, and the rule is action 3
+UNDONE_TOGETHER = whole([1, 3, 1, 1], (), [(0, 0, 0), (0, 1, 0), (COMPENSATION, 0, 1), (0, 2, 0), (0, 3, 0), (COMPENSATION, 3, 4), (PARALLEL, 2, 5),
+                                           THROW, (SEQUENCE, 6, 7)], [3])
 
 
 def examples_of_table():
@@ -361,12 +365,21 @@ def step_of(entry, told):
     return bytes(entry) + answer_of(told, 11)
 
 
-def session_body(rng, cells, file, most):
+def started(file, start, steps):
     """a plan file, what the start tells, and entries with what is told to each"""
+    return bytes([0]) + len(file).to_bytes(2, 'little') + file + answer_of(start) + b''.join(step_of(*step) for step in steps)
+
+
+def session_body(rng, cells, file, most):
+    """a session at random"""
     model = Model(cells, file)
-    start = answer_of(model.told)
-    steps = b''.join(step_of(entry, told) for entry, told in random_entries(rng, model, most))
-    return bytes([0]) + len(file).to_bytes(2, 'little') + file + start + steps
+    return started(file, model.told, random_entries(rng, model, most))
+
+
+def run_body(cells, file, entries):
+    """a session with these entries"""
+    model = Model(cells, file)
+    return started(file, model.told, ((entry, model.take(entry)) for entry in entries))
 
 
 def runs_vectors(cells):
@@ -377,6 +390,8 @@ def runs_vectors(cells):
             yield f'{name}, session {n}', session_body(rng, cells, file, 30)
     for name, file in (('P1 without its rule', P1[:-9]), ('an empty file', b''), ('two skips', whole(nodes=[SKIP, SKIP]))):
         yield f'{name} at the start', bytes([0]) + len(file).to_bytes(2, 'little') + file + answer_of(None, number_of(cells, file))
+    for name, file, entries in every_run(cells):
+        yield name, run_body(cells, file, entries)
     rng = random.Random(SEED_FEW)
     for n in range(FEW):
         yield f'plan {n} of few leaves, seed {SEED_FEW}', session_body(rng, cells, random_plan(cells, rng, rng.randrange(1, 7)), 20)
@@ -487,6 +502,7 @@ def write_programs(cells, write, of_course):
     # of the examples for one number the last, which is a whole file
     own = {f'refused-{number}': file for _, number, file in examples_of_table() if number not in (None, 8)}
     own |= {'fourth-undo': whole([1] * 5, [(0, u) for u in range(1, 5)]), 'largest': LARGEST, 'too-long': LARGEST + b'\0'}
+    own |= {'undone-together': UNDONE_TOGETHER}
     for name, file in own.items():
         write(f'tests/files/{name}.plan', file)
     for name, words, reads, writes in stored_cases(cells, of_course, own):
@@ -572,7 +588,7 @@ def main():
     write('crates/compare/data/runs', data_of(runs))
     judged = list(plans_of_document()) + [('swallowed', SWALLOWED), ('mended', MENDED)]
     withdrawn = ('withdrawn', WITHDRAWN)
-    verdicts = list(verdict_vectors(cells, judged + [withdrawn], edges_of_lengths()))
+    verdicts = list(verdict_vectors(cells, judged + [withdrawn], itertools.chain(edges_of_lengths(), every_set(cells))))
     write('crates/compare/data/verdicts', data_of(verdicts))
     counts = ''.join(f'{group}: {n} vectors, {n} agree\n' for group, n in (('files', len(vectors)), ('runs', len(runs)), ('verdicts', len(verdicts))))
     write('crates/compare/stdout', counts.encode())

@@ -4,24 +4,38 @@ What make_vectors.py and the fuzz scripts share. The model is an independent rea
 after.py, which stands outside the repository.
 """
 import importlib
+import inspect
 import sys
 
 # nothing is to be written beside the model
 sys.dont_write_bytecode = True
 
 SKIP, THROW = (1, 0, 0), (2, 0, 0)
+SEQUENCE, PARALLEL, CHOICE, COMPENSATION, HANDLER = 3, 4, 5, 6, 7
 # how many pairs an action may be first in
 MOST_UNDOS = 3
 # as many pairs as there can be: seven actions, each with the same three undos
 TWENTY_ONE = [(a, u) for a in range(7) for u in (7, 8, 9)]
 
 
+def both_begin(module):
+    """turns the switch of all functions and classes of the module that have it: both sides of a parallel begin, whoever calls"""
+    for thing in vars(module).values():
+        function = thing.__init__ if inspect.isclass(thing) else thing
+        if inspect.isfunction(function):
+            optional = [p for p in inspect.signature(function).parameters.values() if p.default is not p.empty]
+            function.__defaults__ = tuple(True if p.name in ('both', 'both_begin') else p.default for p in optional)
+
+
 def model_in(folder):
-    """the model's module cells.py, which has all of oracle.py's names too, with after.py's reader of files: several undos of an action, and none of an undo"""
+    """the model's module cells.py, which has all of oracle.py's names too, with after.py's reader of files: several undos of an action, and none of an undo;
+    and with both sides of a parallel beginning"""
     sys.path.insert(0, folder)
     oracle, cells, after = (importlib.import_module(name) for name in ('oracle', 'cells', 'after'))
     # in both, since what oracle.py defines reads files by oracle.py's name
     oracle.parse = cells.parse = lambda file, several=True: after.parse2(file, several, 1)
+    both_begin(oracle)
+    both_begin(cells)
     return cells
 
 
@@ -42,12 +56,18 @@ def number_of(model, file, several=True):
         return refused.args[0]
 
 
+def alike(model, file):
+    """whether a file reads the same where an action has one undo at most, and is no plan with a parallel"""
+    number = number_of(model, file)
+    return number == number_of(model, file, several=False) and (number != 0 or all(form != PARALLEL for form, _, _ in model.parse(bytes(file))[2]))
+
+
 def made(model, undos, make):
-    """the file that `make` makes. Where an action may have one undo only, it is one that reads the same whether or not more are allowed: damage may add
-    some"""
+    """the file that `make` makes. Where an action may have one undo only, it is one that programs from before there could be more answer alike: damage
+    may add some, and parallels"""
     while True:
         file = make()
-        if undos > 1 or number_of(model, file) == number_of(model, file, several=False):
+        if undos > 1 or alike(model, file):
             return file
 
 
@@ -105,11 +125,13 @@ def random_pairs(rng, actions, undos):
 
 
 def random_plan(model, rng, leaves=None, undos=MOST_UNDOS):
-    """the file of a plan of 1 to 10 actions and 1 to 32 leaves, a third of them with their nodes in an order other than the model's"""
+    """the file of a plan of 1 to 10 actions and 1 to 32 leaves, a third of them with their nodes in an order other than the model's; without parallels
+    where an action may have one undo only"""
     actions = rng.randrange(1, 11)
     types = [rng.choice([1, 2, 3]) for _ in range(actions)]
     nodes = model.nodes_of(model.rand_tree(rng, leaves or rng.choice([1, 2, 3, 5, 8, 13, 21, 32]), actions))
     nodes = in_another_order(rng, nodes) if rng.randrange(3) == 0 else nodes
+    nodes = nodes if undos > 1 else [(SEQUENCE if form == PARALLEL else form, left, right) for form, left, right in nodes]
     rule = model.rand_rule(rng, actions, rng.randrange(0, 7))
     return model.encode(types, random_pairs(rng, actions, undos), nodes, rule)
 

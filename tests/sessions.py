@@ -29,8 +29,10 @@ class Model:
         self.told = self.tell()
 
     def tell(self):
-        """(leaves that may come next, None | 'ok' | 'fail') after the record"""
+        """(leaves that may come next, None | 'ok' | 'fail') after the record; where a run may end nothing comes next, and elsewhere something does"""
         told = self.cells.told(self.tree, dict(self.record))
+        if bool(told[0]) == bool(told[1]):
+            sys.exit(f'an end and leaves that come next, or neither: {self.tree}, {self.record}, {told}')
         if self.runner and self.runner.told(tuple(self.record)) != told:
             sys.exit(f'the two models differ: {self.tree}, {self.record}')
         return told

@@ -55,8 +55,10 @@ SESSIONS = {
     'undo-replaced': ('p5', b'0 1\n5 2\n1 1\n3 1\n', 'may end failed'),
     # a handler goes on where the undo of what failed has failed
     'handled': ('p4', b'0 1\n3 2\n5 1\n1 2\n5 1\n', 'may end succeeded'),
-    # one side of a parallel has failed: the run may end, and the other side may still come
+    # one side of a parallel has failed: the run may not end before the other has come
     'parallel': ('p3', b'0 2\n1 1\n', 'may end failed'),
+    # the undos of a parallel's sides: one has failed, and the run may not end before the other has come
+    'parallel-undo-fails': ('undone-together', b'0 1\n3 1\n7 2\n1 2\n4 1\n', 'may end failed'),
     # entries out of turn, with outcomes that there are not, of nodes that are no leaves or are not there; what was told still holds
     'refused-entries': ('p1', b'3 1\n1 1\n2 1\n4 1\n5 1\n63 1\n255 255\n0 0\n0 3\n0 1\n0 1\n0 2\n1 1\n3 0\n3 2\n3 1\n1 2\n1 1\n1 1\n', 'may end failed'),
     # almost entries, a long line, bytes of all kinds; then an entry without a newline
@@ -69,7 +71,8 @@ SESSIONS = {
     # as many entries as a run can have
     'largest': ('largest', b''.join(b'%d 1\n' % n for n in [0] + list(range(1, 63, 2))), 'may end succeeded'),
 }
-CONSISTENT, VIOLATED = ('p1', 'mended'), ('p2', 'p3', 'p7', 'swallowed', 'withdrawn', 'largest')
+# of p3 and undone-together a program that lets a side never begin has a set that breaks the rule
+CONSISTENT, VIOLATED = ('p1', 'p3', 'mended', 'undone-together'), ('p2', 'p7', 'swallowed', 'withdrawn', 'largest')
 
 
 def stored_cases(cells, of_course, own):

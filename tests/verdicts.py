@@ -141,8 +141,8 @@ def plans(model, of_document, edges):
         yield f'damaged plan {n} of seed {SEED_DAMAGED}', damaged(rng, random_plan(model, rng)), 0
 
 
-# what document 01 itself says
-SAID = {'P1': 0, 'P2': VIOLATED + 2, 'P7': VIOLATED + 2}
+# what the papers themselves say: documents 01 and, of P3, 02
+SAID = {'P1': 0, 'P2': VIOLATED + 2, 'P3': 0, 'P7': VIOLATED + 2}
 # and the office's story
 SAID |= {'swallowed': VIOLATED + 13, 'mended': 0, 'withdrawn': VIOLATED + 51}
 
@@ -152,5 +152,5 @@ def verdict_vectors(model, of_document, edges):
     for name, file, short in plans(model, list(of_document), edges):
         code = code_of(model, file, short)
         if SAID.get(name, code) != code:
-            sys.exit(f'{name}: the model says {code}, document 01 {SAID[name]}')
+            sys.exit(f'{name}: the model says {code}, the papers {SAID[name]}')
         yield name, code.to_bytes(4, 'little') + bytes([short]) + bytes(file)
