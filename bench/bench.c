@@ -1,6 +1,5 @@
 /* Times the proved verdict and the C one on each named case, and prints a table (Markdown) of their times and ratio. Compiled with BEFORE it
-   times another build of the proved one too, and prints its times and the ratio to them; with ONE_UNDO it leaves out what one from before
-   several undos reads otherwise.
+   times another build of the proved one too, and prints its times and the ratio to them; it leaves out the cases that this one answers otherwise.
 
    What is timed: one whole verdict, from the file's bytes to the answer: reading and checking the file, the summaries, the least violating
    set, the run that is shown, and clearing the work area. Both get the same file and the same two lent areas, which the call before left as
@@ -100,20 +99,23 @@ static const struct version VERSIONS[] = {
 
 enum { VERSION_COUNT = sizeof VERSIONS / sizeof *VERSIONS };
 
-/* The answer of all versions, or an end of the program where they differ: times of different answers compare nothing. */
-static uint32_t answer_of_all(const char *name, const struct plan_file *f)
+/* Whether all versions give the same answer, which is put into `first`: times of different answers compare nothing. The program ends where the proved one
+   and the C one differ. */
+static int same_answer(const char *name, const struct plan_file *f, uint32_t *first)
 {
     uint8_t first_record[RECORD];
-    uint32_t first = VERSIONS[0].f(f->bytes, f->len, work, sizeof work, record, sizeof record);
+    *first = VERSIONS[0].f(f->bytes, f->len, work, sizeof work, record, sizeof record);
     memcpy(first_record, record, sizeof record);
     for (unsigned v = 1; v < VERSION_COUNT; v++) {
         uint32_t answer = VERSIONS[v].f(f->bytes, f->len, work, sizeof work, record, sizeof record);
-        if (answer != first || memcmp(first_record, record, sizeof record)) {
-            printf("%s: proved and %s disagree, %x and %x\n", name, VERSIONS[v].name, (unsigned)first, (unsigned)answer);
+        if (answer == *first && !memcmp(first_record, record, sizeof record))
+            continue;
+        fprintf(stderr, "%s: proved and %s answer differently, %x and %x\n", name, VERSIONS[v].name, (unsigned)*first, (unsigned)answer);
+        if (VERSIONS[v].f == plain_verdict)
             exit(1);
-        }
+        return 0;
     }
-    return first;
+    return 1;
 }
 
 static void print_verdict(uint32_t v)
@@ -138,9 +140,9 @@ int main(void)
             printf("%s is no plan\n", CASES[k].name);
             return 1;
         }
-        if (!is_asked(&f))
+        uint32_t answer;
+        if (!same_answer(CASES[k].name, &f, &answer))
             continue;
-        uint32_t answer = answer_of_all(CASES[k].name, &f);
         double time[VERSION_COUNT][ROUNDS], ratio[VERSION_COUNT][ROUNDS];
         unsigned times[VERSION_COUNT];
         for (unsigned v = 0; v < VERSION_COUNT; v++)

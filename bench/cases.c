@@ -44,7 +44,7 @@
 /* Ten actions side by side, each of which may do either and has "skip" as its handler: 39 nodes, each of the 1,024 sets under code 1. */
 #define EITHER_TEN "0s> 1s>| 2s>| 3s>| 4s>| 5s>| 6s>| 7s>| 8s>| 9s>|"
 
-/* Ten actions and "throw" side by side have every set under 4 and 5, since a side may fail or never begin. The handler "throw or skip"
+/* Ten actions and "throw" side by side have every set under 4 and 5, since each action may finish or fail. The handler "throw or skip"
    brings these under 1 and 2 also, and beside it "skip, undone by throw or skip" adds 3 and 6. So each of the six families is full, 1,024
    sets, with 16 leaves. Two of these side by side are 63 nodes, and the last node joins two full summaries to a full one. */
 #define FULL_HALF "01|2|3|4|5|6|7|8|9|t| ts+ > s ts+ / |"

@@ -51,15 +51,56 @@ static struct value part(const struct layout *p, unsigned set, unsigned *at)
     return (struct value){left.positive || right.positive, left.negative && right.negative};
 }
 
+/* Of a node in a complete run: whether it began and failed; whether it left an undo, and that began. */
+struct part_run {
+    int began, failed, undo, undo_began;
+};
+
+static struct part_run either(struct part_run x, struct part_run y)
+{
+    return (struct part_run){x.began || y.began, x.failed || y.failed, x.undo || y.undo, x.undo_began || y.undo_began};
+}
+
+static struct part_run composite(unsigned form, struct part_run x, struct part_run y)
+{
+    int succeeded = x.began && !x.failed;
+    switch (form) {
+    case COMPENSATION:
+        return succeeded ? (struct part_run){1, 0, 1, y.began} : x;
+    case HANDLER:
+        return x.failed ? (struct part_run){1, y.failed, y.undo, y.undo_began} : x;
+    default:
+        return either(x, y);
+    }
+}
+
+/* Whether both sides of each parallel began, or neither; and likewise their undos, where both left one. A leaf's outcome is 0 where it did not run. */
+static int both_began(const struct layout *p, const uint8_t outcomes[MOST_NODES])
+{
+    struct part_run runs[MOST_NODES];
+    for (unsigned i = 0; i < p->node_count; i++) {
+        const uint8_t *node = p->nodes + 3 * i;
+        if (node[0] < SEQUENCE) {
+            runs[i] = (struct part_run){outcomes[i] != 0, outcomes[i] == 2, 0, 0};
+            continue;
+        }
+        struct part_run x = runs[node[1]], y = runs[node[2]];
+        if (node[0] == PARALLEL && (x.began != y.began || (x.undo && y.undo && x.undo_began != y.undo_began)))
+            return 0;
+        runs[i] = composite(node[0], x, y);
+    }
+    return 1;
+}
+
 static const char *run_fault(const struct layout *p, const uint8_t *record, unsigned set)
 {
-    uint64_t ran = 0;
+    uint8_t outcomes[MOST_NODES] = {0};
     unsigned finished = 0, i = 0, at = p->rule_len;
     for (; i < 126 && record[i + 1]; i += 2) {
         unsigned n = record[i], outcome = record[i + 1];
-        if (n >= p->node_count || p->nodes[3 * n] >= SEQUENCE || ran >> n & 1)
+        if (n >= p->node_count || p->nodes[3 * n] >= SEQUENCE || outcomes[n])
             return "an entry names no leaf, or one that ran";
-        ran |= 1ull << n;
+        outcomes[n] = outcome;
         const uint8_t *node = p->nodes + 3 * n;
         unsigned type = node[0] == SKIP ? 1 : node[0] == THROW ? 2 : p->types[node[1]];
         if (outcome > 2 || (type != 3 && type != outcome))
@@ -73,7 +114,7 @@ static const char *run_fault(const struct layout *p, const uint8_t *record, unsi
         return "the run leaves another set";
     if (part(p, set, &at).positive)
         return "the set satisfies the rule";
-    return 0;
+    return both_began(p, outcomes) ? 0 : "one side of a parallel never began";
 }
 
 const char *answer_fault(const uint8_t *file, size_t len, const struct answer *before, const struct answer *after)

@@ -17,7 +17,8 @@ struct answer {
 void fill_areas(struct answer *a, uint64_t seed);
 
 /* What is wrong with an answer to this file, from areas that were as in `before`; a null pointer where nothing is. The run that is shown is
-   held to the plan: leaves that do what they may, each at most once, whose set is the one given, and which breaks the rule. */
+   held to the plan: leaves that do what they may, each at most once, in both sides of a parallel or in neither, and likewise in their undos; its set is
+   the one given, and that breaks the rule. */
 const char *answer_fault(const uint8_t *file, size_t len, const struct answer *before, const struct answer *after);
 
 #endif

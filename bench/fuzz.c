@@ -1,6 +1,6 @@
 /* Random plans, good and damaged, and lent areas of any size: the proved verdict and the C one must answer the same, and leave the same in
-   every lent byte and in those past them; compiled with BEFORE, another build of the proved one too; with ONE_UNDO, files that one from before several undos
-   reads alike. fuzz [COUNT [SEED]]; it ends with 1 at the first disagreement, which it prints. */
+   every lent byte and in those past them; compiled with BEFORE, another build of the proved one too; with ALIKE, files that an earlier one answers alike
+   (plans.h). fuzz [COUNT [SEED]]; it ends with 1 at the first disagreement, which it prints. */
 #include <stdio.h>
 #include <stdlib.h>
 #include <string.h>

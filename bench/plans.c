@@ -113,6 +113,8 @@ static void random_nodes(uint64_t *state, struct plan *p, unsigned leaves)
         unsigned form = parallel && below(state, 2) ? PARALLEL : SEQUENCE + below(state, 5);
         if (form == COMPENSATION && holding >> r & 1)
             form = HANDLER;
+        if (form == PARALLEL && !PLAN_PARALLELS)
+            form = SEQUENCE;
         open[j] = add_node(p, form, l, r);
         if (form == COMPENSATION || (holding >> l | holding >> r) & 1)
             holding |= 1ull << open[j];
@@ -174,10 +176,19 @@ static size_t heading_of(const struct plan_file *f, unsigned k)
 /* As many pairs as there could be where an action had one undo at most. */
 enum { FEW_PAIRS = 9 };
 
-int is_asked(const struct plan_file *f)
+static int has_parallel(const struct plan_file *f)
 {
-    if (PLAN_UNDOS > 1)
-        return 1;
+    struct layout p;
+    if (read_plan(f->bytes, f->len, &p))
+        return 0;
+    for (unsigned i = 0; i < p.node_count; i++)
+        if (p.nodes[3 * i] == PARALLEL)
+            return 1;
+    return 0;
+}
+
+static int pairs_alike(const struct plan_file *f)
+{
     const uint8_t *heading = f->bytes + heading_of(f, 1), *pairs = heading + 4, *end = f->bytes + f->len;
     unsigned len = heading[0] | heading[1] << 8;
     if (len > 2 * FEW_PAIRS)
@@ -187,6 +198,11 @@ int is_asked(const struct plan_file *f)
             if (pairs[j] == pairs[i] && pairs[j + 1] != pairs[i + 1])
                 return 0;
     return 1;
+}
+
+int is_asked(const struct plan_file *f)
+{
+    return (PLAN_UNDOS > 1 || pairs_alike(f)) && (PLAN_PARALLELS || !has_parallel(f));
 }
 
 /* A byte of the body of block k; a byte anywhere where it has none. */

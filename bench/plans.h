@@ -28,11 +28,12 @@ void write_plan(const struct plan *p, struct plan_file *out);
 uint64_t next_random(uint64_t *state);
 unsigned below(uint64_t *state, unsigned n);
 
-/* How many undos an action of a random plan has at most. Compiled with ONE_UNDO it is one, as it was for all plans before there could be more. */
-#ifdef ONE_UNDO
-enum { PLAN_UNDOS = 1 };
+/* How many undos an action of a random plan has at most, and whether it has parallels. Compiled with ALIKE it has one and none, so that a version from before
+   an action could have more, or from before both sides of a parallel had to begin, answers alike. */
+#ifdef ALIKE
+enum { PLAN_UNDOS = 1, PLAN_PARALLELS = 0 };
 #else
-enum { PLAN_UNDOS = MOST_UNDOS };
+enum { PLAN_UNDOS = MOST_UNDOS, PLAN_PARALLELS = 1 };
 #endif
 
 /* A plan that no check refuses: 1 to 10 actions, 1 to 32 leaves, all forms, pairs and nodes in any order that the file permits. */
@@ -41,8 +42,8 @@ void random_plan(uint64_t *state, struct plan_file *out);
 /* Changes a file in one place: a byte changed, cut, extended, a length moved, and so on. Most are then refused, not all. */
 void damage(uint64_t *state, struct plan_file *f);
 
-/* Whether a file, damaged or not, is one to be tried. Compiled with ONE_UNDO it is where its pairs mean now what they meant before: no more than
-   nine, or too many at any time, and no action first in two different ones. */
+/* Whether a file, damaged or not, is one to be tried. Compiled with ALIKE it is where its pairs mean now what they meant before: no more than
+   nine, or too many at any time, and no action first in two different ones; and where it is no plan with a parallel. */
 int is_asked(const struct plan_file *f);
 
 #endif

@@ -3,7 +3,7 @@
 
 #include <string.h>
 
-/* Document 01's 245 codes: forms 3 to 7, left code 0 to 6, right code 0 to 6, the right changing fastest. */
+/* Document 01's 245 codes, those of a parallel as document 02 has them: forms 3 to 7, left code 0 to 6, right code 0 to 6, the right changing fastest. */
 const uint8_t CHART[5 * CODES * CODES] = {
     /* sequence */
     0, 7, 7, 7, 7, 7, 7,
@@ -14,13 +14,13 @@ const uint8_t CHART[5 * CODES * CODES] = {
     5, 7, 7, 7, 7, 7, 7,
     6, 7, 7, 7, 7, 7, 7,
     /* parallel */
-    0, 7, 7, 7, 4, 5, 6,
-    7, 1, 7, 3, 4, 7, 6,
+    0, 7, 7, 7, 7, 7, 7,
+    7, 1, 7, 7, 4, 7, 7,
     7, 7, 2, 3, 7, 5, 6,
-    7, 3, 3, 3, 6, 6, 6,
-    4, 4, 7, 6, 4, 7, 6,
-    5, 7, 5, 6, 7, 5, 6,
-    6, 6, 6, 6, 6, 6, 6,
+    7, 7, 3, 3, 7, 6, 6,
+    7, 4, 7, 7, 4, 7, 7,
+    7, 7, 5, 6, 7, 5, 6,
+    7, 7, 6, 6, 7, 6, 6,
     /* choice */
     0, 1, 2, 3, 4, 5, 6,
     1, 7, 7, 7, 7, 7, 7,
