@@ -1,5 +1,6 @@
 -- Demand 2: "For every list of entries offered to a fresh job, the runner lets through exactly the beginnings of the runs that Figure 2
--- gives for the plan, passing over refused entries, and says that a run may end exactly where that figure has a complete one."
+-- gives for the plan, passing over refused entries, and says that a run may end exactly where that figure has a complete one." By document
+-- 02 (N6) both sides of a parallel begin, so that where a run may end nothing may come next.
 use mathlib.Core.Path.{_≡_}
 use mathlib.Core.List.{List}
 use Prim.Native.Nat.{ℕ}

@@ -1,5 +1,6 @@
 -- The theorem under the runner: after a list of entries that begins a run of a plan, the cells tell exactly the entries that may
--- follow, and exactly how the run may end here. It holds for undos of any depth. `beginnings` in proofs/ proves it.
+-- follow, and exactly how the run may end here; and a run that may end does not go on. It holds for undos of any depth. `beginnings` in
+-- proofs/ proves it.
 use mathlib.Core.Path.{_≡_}
 use mathlib.Core.List.{[], _∷_, _++_}
 use mathlib.Core.Logic.{_⊎_, _↔_}

@@ -1,5 +1,6 @@
 -- Cells: where a process stands after some entries of a run, computed by one fold over it from the outcomes of its leaves alone, and
--- what the runner tells from that (document 01, "The job"). Each rule is the sentence of document 01, "Runs", on its form.
+-- what the runner tells from that (document 01, "The job"). Each rule is the sentence of document 01, "Runs", on its form; of a parallel,
+-- as document 02 (N6) amends it.
 --
 -- A process has levels: level 0 is its forward run (the report's Π), level 1 its undo (the report's compensation process), level 2 the
 -- undo of its undo, and so on. A cell is a process at one level: nothing to run, or whether it has begun, how it has ended, and which
