@@ -1,5 +1,5 @@
 /* Times the proved verdict and the C one on each named case, and prints a table (Markdown) of their times and ratio. Compiled with BEFORE it
-   times another build of the proved one too, and prints its times and the ratio to them; it leaves out the cases that this one answers otherwise.
+   times another build of the proved one too, and prints its times and the ratio to them; a case that the other build answers otherwise is told and left out.
 
    What is timed: one whole verdict, from the file's bytes to the answer: reading and checking the file, the summaries, the least violating
    set, the run that is shown, and clearing the work area. Both get the same file and the same two lent areas, which the call before left as

@@ -1,6 +1,6 @@
 """Plans in which one side of a parallel may fail, forward or undoing, while the other has not begun: it begins all the same.
 
-What make_vectors.py has in the groups `runs`, each complete run of these, and `verdicts`, each set of their actions.
+make_vectors.py takes each complete run of these into the group `runs`, and each set of their actions into `verdicts`. The trees are as the model writes them.
 """
 from verdicts import not_just
 

@@ -61,19 +61,16 @@ module _ (s : List ℕ) (l : Layout) (acc : readOf s ≡ Accepted l) (x : Standi
   T = saying (record { ended = toldEnded 1 P w; next = toldNext 1 P w })
 
   ends-or-goes-on : EndsOrGoesOn (x .told)
-  ends-or-goes-on = rw (told-is s l acc x f) (go (toldEnded 1 P w) refl)
+  ends-or-goes-on = rw (told-is s l acc x f) (go (toldEnded 1 P w) refl (tells s l acc .goes-on w (reached s l acc x f .begins)))
     where
       ended-so : (t : Status) → toldEnded 1 P w ≡ ending t → EndsOrGoesOn T
       ended-so t e = may-end t (end-told (toldEnded 1 P w) t e) (tells s l acc .over w t e)
 
-      open-so : toldEnded 1 P w ≡ ended.Open → ((t : Status) × (toldEnded 1 P w ≡ ending t)) ⊎ ((n : ℕ) × Holds (toldNext 1 P w) n) → EndsOrGoesOn T
-      open-so e (inl (t, h)) = ended-so t h
-      open-so e (inr (n, h)) = goes-on (rw e) n h
-
-      go : (y : Ended) → toldEnded 1 P w ≡ y → EndsOrGoesOn T
-      go ended.Open e = open-so e (tells s l acc .goes-on w (reached s l acc x f .begins))
-      go ended.Succeeded e = ended-so ok e
-      go ended.Failed e = ended-so fail e
+      go : (y : Ended) → toldEnded 1 P w ≡ y → ((t : Status) × (toldEnded 1 P w ≡ ending t)) ⊎ ((n : ℕ) × Holds (toldNext 1 P w) n) → EndsOrGoesOn T
+      go y e (inl (t, h)) = ended-so t h
+      go ended.Open e (inr (n, h)) = goes-on (rw e) n h
+      go ended.Succeeded e (inr h) = ended-so ok e
+      go ended.Failed e (inr h) = ended-so fail e
 
   pub honest : Honest P x
   honest =

@@ -36,7 +36,7 @@ pub record Takes (e : Entry) (w : Run) (t : Taken) : Type 0 where
   pub number : numberOf (t .answer) ≡ 0
   pub recorded : recordOf (t .job) ≡ w ++ (runEntry e ∷ [])
 
--- Of the two one is told, and never both: that the run may end, or that it may not and some leaf may come next.
+-- The run may end, and nothing may come next; or it may not, and some leaf may.
 pub data EndsOrGoesOn (t : Told) : Type 0 where
   may-end : (s : Status) → endNumber (t .end) ≡ statusNumber s → t .next ≡ 0 → EndsOrGoesOn t
   goes-on : endNumber (t .end) ≡ 0 → (n : ℕ) → t .next / 2 ^ n % 2 ≡ 1 → EndsOrGoesOn t
@@ -52,7 +52,7 @@ pub record Honest (P : Process) (x : Standing) : Type 0 where
   pub ends : (s : Status) → (endNumber (x .told .end) ≡ statusNumber s) ↔ Complete P (recordOf (x .job)) s
   -- (iv) a leaf may come next exactly where some entry of it continues the record
   pub next : (n : ℕ) → (x .told .next / 2 ^ n % 2 ≡ 1) ↔ ((s : Status) × Begins P (recordOf (x .job) ++ (entry n s ∷ [])))
-  -- (v) where the run may end nothing may come next, and else something may
+  -- (v) that the run may end is told, or some leaf as next, and never both
   pub one-of : EndsOrGoesOn (x .told)
 
 -- A start that is not refused: what it tells, and the fresh job, whose record is empty.

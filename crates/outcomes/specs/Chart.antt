@@ -1,4 +1,4 @@
--- The outcome chart for any undoDepth of undos: which code a node has from the codes of its two sides, a rule for each line of Figure 2, and
+-- The outcome chart for undos of any depth: which code a node has from the codes of its two sides, a rule for each line of Figure 2, and
 -- which sets a process leaves under a code.
 use mathlib.Core.List.{[], _∷_}
 use mathlib.Core.Path.{_≡_}

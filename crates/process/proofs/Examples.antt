@@ -1,4 +1,5 @@
--- Worked examples of Figure 2: the report's Examples 1 and 2, whole, and for each form a run that a wrong rule of the figure would lose.
+-- Worked examples of Figure 2: the report's Examples 1 and 2, whole; for each form a run that a wrong rule of the figure would lose; and for
+-- a parallel what all its runs are like, which a rule too many would break.
 use mathlib.Core.Path.{_≡_, refl, sym, _∙_, ap}
 use mathlib.Core.Bool.{Bool, true, false, true≢false}
 use mathlib.Core.List.{List, [], _∷_, _++_, append-nil}
@@ -97,7 +98,7 @@ executions-order charged-and-processed = (_, _, complete-order kept, refl)
 executions-order charged-and-credited = (_, _, complete-order credited, refl)
 executions-order nothing-left = (_, _, complete-order not-charged, refl)
 
--- Parallel, document 01's P3: a throw beside an action. Both begin, in either order, and so the set 1 is the only one.
+-- Parallel, P3 as document 02 has it: a throw beside an action. Both begin, in either order, and so the set 1 is the only one.
 abbrev pub beside : Process
 beside = node parallel (leaf 0 fails) (leaf 1 finishes)
 
@@ -165,6 +166,20 @@ undos-both-begin k l (c-fail (f-sequence (f-parallel a b i e) (f-leaf m) z) c w)
     let y = compensated b in
     rw (← w, ← z) (simp length-append (omega (arith, interleaved-length i, x .one-entry, y .one-entry, undos-run (rw (x .its-undo, y .its-undo) at c))))
 undos-both-begin k l (c-fail (f-sequence-fails (f-parallel a b i e)) c w) = not-ok (sym e ∙ rw (← compensated a .succeeded, ← compensated b .succeeded))
+
+-- A side does not stop where the other has failed: a leaf beside two in turn, which both come.
+in-turn : {r : Run} {s : Status} {U : Process} → Forward (node sequence (leaf 1 finishes) (leaf 2 finishes)) r s U → length r ≡ 2
+in-turn (f-sequence (f-leaf _) (f-leaf _) z) = rw (← z)
+in-turn (f-sequence-fails (f-leaf m)) = not-both m refl
+
+both-end : (k : Kind) {r : Run} {s : Status} {U : Process} → Forward (node parallel (leaf 0 k) (node sequence (leaf 1 finishes) (leaf 2 finishes))) r s U → length r ≡ 3
+both-end k (f-parallel (f-leaf _) b i e) = omega (arith, interleaved-length i, in-turn b)
+
+-- Where the right side alone fails the whole fails, and both sides are undone; forward and undoing they mix.
+mixed : Complete (node parallel (node compensation (leaf 0 finishes) (leaf 1 finishes)) (node sequence (node compensation (leaf 3 finishes) (leaf 4 finishes)) (leaf 6 fails))) (entry 3 ok ∷ entry 0 ok ∷ entry 6 fail ∷ entry 4 ok ∷ entry 1 ok ∷ []) fail
+mixed =
+    c-fail (f-parallel (f-compensation (f-leaf refl)) (f-sequence (f-compensation (f-leaf refl)) (f-leaf refl) refl) (from-right (from-left (from-right neither))) refl)
+    (c-ok (f-parallel (f-leaf refl) (f-sequence f-done (f-leaf refl) refl) (from-right (from-left neither)) refl)) refl
 
 -- Choice: exactly one side.
 left-side : Complete (node choice (leaf 0 finishes) (leaf 1 fails)) (entry 0 ok ∷ []) ok

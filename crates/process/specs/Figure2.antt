@@ -4,7 +4,7 @@
 --
 -- Document 02 (N6) takes the last two sets of the report's rule for P ∥ Q away: both sides begin. An undo P′ ∥ Q′ is a process like any
 -- other, so its branches both begin too.
-use mathlib.Core.List.{List, [], _∷_, _++_}
+use mathlib.Core.List.{[], _∷_, _++_}
 use mathlib.Core.Path.{_≡_}
 use Prim.Native.Nat.{ℕ}
 use Rattle.process.specs.Process.{Status, ok, fail, Kind, Permits, sequence, parallel, choice, compensation, handler, Process, done, leaf, node, Entry, entry, Run}

@@ -14,35 +14,31 @@ use Rattle.runs.specs.Cells.{ending, isSucceeded, isFailed, Outcomes, gi
 use Rattle.runs.proofs.Endings.{not-both, of-not, not-open, or-true, parallel-ends}
 use Rattle.runs.proofs.Marked.{Pairing, in-sequence, in-parallel}
 
--- How the left side has ended where it may still go on in a composite that has ended: a handler's has then succeeded.
-abbrev LeftEnds : Form → Ended → Type 0
-LeftEnds sequence x = (t : Status) × (x ≡ ending t)
-LeftEnds parallel x = (t : Status) × (x ≡ ending t)
-LeftEnds choice x = (t : Status) × (x ≡ ending t)
-LeftEnds compensation x = (t : Status) × (x ≡ ending t)
-LeftEnds handler x = x ≡ Succeeded
+-- A side that has ended has begun, and no leaf comes next in it.
+abbrev Stops : Ended → Bool → ℕ → Type 0
+Stops x begun next = (s : Status) → x ≡ ending s → (begun ≡ true) × (next ≡ 0)
 
--- A composite that has ended has begun, and a side of it that may still go on has ended.
-record NodeOver (f : Form) (x : Ended) (x-begun : Bool) (y : Ended) (y-begun x-over : Bool) : Type 0 where
+-- A composite that has ended has begun, and in a side of it that may still go on no leaf comes next.
+record NodeOver (f : Form) (x : Ended) (x-begun y-begun x-over : Bool) (x-next x-whole y-next : ℕ) : Type 0 where
   has-begun : nodeBegun f x-begun y-begun ≡ true
-  left-ended : leftMay f y-begun ≡ true → LeftEnds f x
-  right-ended : rightMay f x x-begun x-over ≡ true → (t : Status) × (y ≡ ending t)
+  left-stops : leftMay f y-begun ≡ true → leftNext f x-next x-whole ≡ 0
+  right-stops : rightMay f x x-begun x-over ≡ true → y-next ≡ 0
 
-module _ {x-begun y-begun x-over : Bool} where
-  node-over : (f : Form) (x y : Ended) (s : Status) → ((t : Status) → x ≡ ending t → x-begun ≡ true) → ((t : Status) → y ≡ ending t → y-begun ≡ true) → (x ≡ Succeeded → x-over ≡ false) → nodeEnded f x y y-begun ≡ ending s → NodeOver f x x-begun y y-begun x-over
-  node-over sequence Open y s l r o h = not-open s refl h
-  node-over sequence Succeeded y s l r o h = record { has-begun = rw (l ok refl); left-ended = λ e. (ok, refl); right-ended = λ e. (s, h) }
-  node-over sequence Failed y s l r o h = record { has-begun = rw (l fail refl); left-ended = λ e. (fail, refl); right-ended = λ e. not-both e refl }
-  node-over parallel x y s l r o h = let p = parallel-ends x y s h in record { has-begun = rw (l (p .left) (p .left-ends)); left-ended = λ e. (p .left, p .left-ends); right-ended = λ e. (p .right, p .right-ends) }
-  node-over choice x y s l r o h = by y-begun refl h
+module _ {x-begun y-begun x-over : Bool} {x-next x-whole y-next : ℕ} where
+  node-over : (f : Form) (x y : Ended) (s : Status) → Stops x x-begun x-next → Stops y y-begun y-next → (x ≡ Succeeded → x-whole ≡ 0) → (x ≡ Succeeded → x-over ≡ false) → nodeEnded f x y y-begun ≡ ending s → NodeOver f x x-begun y-begun x-over x-next x-whole y-next
+  node-over sequence Open y s l r w o h = not-open s refl h
+  node-over sequence Succeeded y s l r w o h = record { has-begun = rw (l ok refl .0); left-stops = λ e. l ok refl .1; right-stops = λ e. r s h .1 }
+  node-over sequence Failed y s l r w o h = record { has-begun = rw (l fail refl .0); left-stops = λ e. l fail refl .1; right-stops = λ e. not-both e refl }
+  node-over parallel x y s l r w o h = let p = parallel-ends x y s h in record { has-begun = rw (l (p .left) (p .left-ends) .0); left-stops = λ e. l (p .left) (p .left-ends) .1; right-stops = λ e. r (p .right) (p .right-ends) .1 }
+  node-over choice x y s l r w o h = by y-begun refl h
     where
-      by : (b : Bool) → y-begun ≡ b → cond b y x ≡ ending s → NodeOver choice x x-begun y y-begun x-over
-      by true e h = record { has-begun = rw e (or-true x-begun); left-ended = λ i. not-both e (of-not i); right-ended = λ i. (s, h) }
-      by false e h = record { has-begun = rw (l s h); left-ended = λ i. (s, h); right-ended = λ i. not-both (l s h) (of-not i) }
-  node-over compensation x y s l r o h = record { has-begun = l s h; left-ended = λ e. (s, h); right-ended = λ e. not-both e refl }
-  node-over handler Open y s l r o h = not-open s refl h
-  node-over handler Succeeded y s l r o h = record { has-begun = l ok refl; left-ended = λ e. refl; right-ended = λ e. not-both e (o refl) }
-  node-over handler Failed y s l r o h = record { has-begun = l fail refl; left-ended = λ e. not-both (r s h) (of-not e); right-ended = λ e. (s, h) }
+      by : (b : Bool) → y-begun ≡ b → cond b y x ≡ ending s → NodeOver choice x x-begun y-begun x-over x-next x-whole y-next
+      by true e h = record { has-begun = rw e (or-true x-begun); left-stops = λ i. not-both e (of-not i); right-stops = λ i. r s h .1 }
+      by false e h = record { has-begun = rw (l s h .0); left-stops = λ i. l s h .1; right-stops = λ i. not-both (l s h .0) (of-not i) }
+  node-over compensation x y s l r w o h = record { has-begun = l s h .0; left-stops = λ e. l s h .1; right-stops = λ e. not-both e refl }
+  node-over handler Open y s l r w o h = not-open s refl h
+  node-over handler Succeeded y s l r w o h = record { has-begun = l ok refl .0; left-stops = λ e. w refl; right-stops = λ e. not-both e (o refl) }
+  node-over handler Failed y s l r w o h = record { has-begun = l fail refl .0; left-stops = λ e. not-both (r s h .0) (of-not e); right-stops = λ e. r s h .1 }
 
 -- What each cell keeps.
 record Settles (x : Cell) : Type 0 where
@@ -57,21 +53,14 @@ neither-next false false m n h i = refl
 
 -- A composite of sides that are there. Where the left has succeeded its whole has no next leaf, and has not failed.
 module _ {x y : Cell} (X : Settles x) (Y : Settles y) (x-there : x .empty ≡ false) (y-there : y .empty ≡ false) where
-  left-stops : (f : Form) (x-whole : ℕ) → (x .ended ≡ Succeeded → x-whole ≡ 0) → LeftEnds f (x .ended) → leftNext f (x .next) x-whole ≡ 0
-  left-stops sequence n w (t, e) = X .stops t e
-  left-stops parallel n w (t, e) = X .stops t e
-  left-stops choice n w (t, e) = X .stops t e
-  left-stops compensation n w (t, e) = X .stops t e
-  left-stops handler n w e = w e
-
   node-settles : (f : Form) (x-whole : ℕ) (x-over : Bool) → (x .ended ≡ Succeeded → x-whole ≡ 0) → (x .ended ≡ Succeeded → x-over ≡ false) → Settles (nodeCell f x y (leftNext f (x .next) x-whole) x-over)
   node-settles f n o w v = record {
     begins = λ e s h. over s h .has-begun;
-    stops = λ s h. neither-next (leftMay f (y .begun)) (rightMay f (x .ended) (x .begun) o) (leftNext f (x .next) n) (y .next) (λ e. left-stops f n w (over s h .left-ended e)) (λ e. let (t, i) = over s h .right-ended e in Y .stops t i);
+    stops = λ s h. neither-next (leftMay f (y .begun)) (rightMay f (x .ended) (x .begun) o) (leftNext f (x .next) n) (y .next) (over s h .left-stops) (over s h .right-stops);
   }
     where
-      over : (s : Status) → nodeEnded f (x .ended) (y .ended) (y .begun) ≡ ending s → NodeOver f (x .ended) (x .begun) (y .ended) (y .begun) o
-      over s h = node-over f (x .ended) (y .ended) s (X .begins x-there) (Y .begins y-there) v h
+      over : (s : Status) → nodeEnded f (x .ended) (y .ended) (y .begun) ≡ ending s → NodeOver f (x .ended) (x .begun) (y .begun) o (x .next) n (y .next)
+      over s h = node-over f (x .ended) (y .ended) s (λ t e. (X .begins x-there t e, X .stops t e)) (λ t e. (Y .begins y-there t e, Y .stops t e)) w v h
 
   pair-settles : {f : Form} → Pairing f → Settles (nodeCell f x y (x .next) false)
   pair-settles in-sequence = node-settles sequence 0 false (λ e. refl) (λ e. refl)

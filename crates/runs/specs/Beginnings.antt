@@ -4,10 +4,10 @@
 use mathlib.Core.Path.{_≡_}
 use mathlib.Core.List.{[], _∷_, _++_}
 use mathlib.Core.Logic.{_⊎_, _↔_}
-use Prim.Native.Nat.{ℕ, zero, suc, _+_, _≤_, max}
+use Prim.Native.Nat.{ℕ, _+_, _≤_}
 use lib.Dec.{eqb}
 use lib.ListN.{length}
-use Rattle.process.specs.Process.{Status, Kind, Permits, Form, sequence, parallel, choice, compensation, handler, Process, done, leaf, node, entry, Run}
+use Rattle.process.specs.Process.{Status, Process, done, leaf, node, entry, Run}
 use Rattle.process.specs.Figure2.{Complete}
 use Rattle.runs.specs.Cells.{ending, Holds, toldEnded, toldNext}
 use Rattle.process.specs.Leaves.{AsWritten, LeafPermits, Distinct}

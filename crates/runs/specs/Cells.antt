@@ -16,7 +16,6 @@ use Rattle.runs.specs.declared.Ended.{Ended}
 use Rattle.runs.specs.declared.Ended.the-variants.{Open, Succeeded, Failed}
 use Rattle.runs.specs.declared.Cell.{Cell}
 
--- By a test.
 -- Ended with the report's ✓ or ×.
 abbrev pub ending : Status → Ended
 ending ok = Succeeded
