@@ -11,7 +11,7 @@ use Rattle.job.specs.Offer.{Real, offer, started}
 use Rattle.state.specs.State.{entriesFrom}
 use Rattle.job.specs.Demand2.{Starts, Demand2}
 use Rattle.job.specs.declared.Job.{Job}
-use Rattle.job.proofs.Standing.{refuses-so, started-fine, offered-fine}
+use Rattle.job.proofs.Standing.{refuses-so, tells, started-fine, offered-fine}
 use Rattle.job.proofs.Honest.{honest}
 use Rattle.job.proofs.Real.{false-refused}
 
@@ -34,6 +34,7 @@ demand2 = record {
   starts = starts-so;
   turns-away = λ s n h. refuses-so n noJob (startOf s) (ap (startOn s) h);
   honest = λ s l h es. honest s l h (offer (started s l) es) (offered-fine s l h es (started s l) (started-fine s l h));
+  no-prefix = λ s l h. tells s l h .no-prefix;
   false-jobs = false-refused;
   no-job = no-job-real;
 }

@@ -12,7 +12,7 @@ use Rattle.plan.specs.Reading.{bytesOf, readOf}
 use Rattle.plan.specs.Tree.{processOf}
 use Rattle.plan.specs.declared.Layout.{Layout}
 use Rattle.plan.specs.declared.Reading.the-variants.{Accepted, Refused}
-use Rattle.runs.specs.Beginnings.{Begins}
+use Rattle.runs.specs.Beginnings.{Begins, NoPrefix}
 use Rattle.job.specs.Job.{noJob, startOf, takeOf}
 use Rattle.job.specs.Numbers.{numberOf, nextOf, endNumber, endOf, Refuses}
 use Rattle.job.specs.Offer.{Standing, offer, started, statusNumber, runEntry, recordOf, Real, Sized}
@@ -69,6 +69,8 @@ pub record Demand2 : Type 0 where
   pub turns-away : (s : List ℕ) (n : ℕ) → readOf s ≡ Refused n → Refuses n noJob (startOf s)
   -- every list of entries offered to a fresh job
   pub honest : (s : List ℕ) (l : Layout) → readOf s ≡ Accepted l → (es : List Entry) → Honest (planProcess s l) (offer (started s l) es)
+  -- and so of runs: no complete run of the plan is a proper beginning of another
+  pub no-prefix : (s : List ℕ) (l : Layout) → readOf s ≡ Accepted l → NoPrefix (planProcess s l)
   -- a job value that no file and no list of entries give is refused with 11, whatever the entry, and handed back unchanged
   pub false-jobs : (j : Job) → Sized j → (Real j → ⊥) → (e : Entry) → Refuses 11 j (takeOf j e)
   -- such is the job beside a start's refusal

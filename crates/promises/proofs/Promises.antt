@@ -10,7 +10,7 @@ use Rattle.promises.proofs.Refused.{demand-1}
 pub promises : Promises
 promises = record {
   refused = demand-1;
-  runner = record { starts = demand2 .starts; honest = demand2 .honest };
+  runner = record { starts = demand2 .starts; honest = demand2 .honest; no-prefix = demand2 .no-prefix };
   verdict = record { rule = λ s l h. demand1 .holds s l h .rule-holds .holds; says = demand3 .says; leaves = leaves };
   an-end = promised-end;
 }

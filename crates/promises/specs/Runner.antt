@@ -7,6 +7,7 @@ use Prim.Native.Nat.{ℕ}
 use Rattle.plan.specs.Reading.{readOf}
 use Rattle.plan.specs.declared.Layout.{Layout}
 use Rattle.plan.specs.declared.Reading.the-variants.{Accepted}
+use Rattle.runs.specs.Beginnings.{NoPrefix}
 use Rattle.state.specs.declared.Entry.{Entry}
 use Rattle.job.specs.Job.{startOf}
 use Rattle.job.specs.Offer.{offer, started}
@@ -17,3 +18,5 @@ pub record Demand2 : Type 0 where
   pub starts : (s : List ℕ) (l : Layout) → readOf s ≡ Accepted l → Starts (started s l) (startOf s)
   -- wherever it stands after any list of entries, refused ones passed over
   pub honest : (s : List ℕ) (l : Layout) → readOf s ≡ Accepted l → (es : List Entry) → Honest (planProcess s l) (offer (started s l) es)
+  -- no complete run of the plan is a proper beginning of another
+  pub no-prefix : (s : List ℕ) (l : Layout) → readOf s ≡ Accepted l → NoPrefix (planProcess s l)

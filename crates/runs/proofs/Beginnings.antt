@@ -10,7 +10,7 @@ use borrow.Author.Tests.{eqb-true, eqb-false}
 use Rattle.process.specs.Process.{Status, ok, Process, done, leaf, node, entry, Run}
 use Rattle.process.specs.Figure2.{Complete}
 use Rattle.runs.specs.Cells.{ending, Outcomes, noneRun, setOutcome, outcomesAfter, Holds, cellsOf, toldEnded, toldNext}
-use Rattle.runs.specs.Beginnings.{Begins, Beginnings, BeginningsTold}
+use Rattle.runs.specs.Beginnings.{Begins, NoPrefix, Beginnings, BeginningsTold}
 use Rattle.runs.proofs.Marked.{Marked, m-node, fresh, unmarked, WholeEnds, mark, whole, Steps, still, first, r-going}
 use Rattle.runs.proofs.Undo.{Within, step-permits, permits-leaf, step-marks}
 use Rattle.runs.proofs.Reached.{reach-fresh}
@@ -138,7 +138,7 @@ module _ (k : ℕ) (P : Process) (g : Within k P) where
   ended : (w : Run) (s : Status) → toldEnded k P w ≡ ending s → toldNext k P w ≡ 0
   ended w s h = over k (after w) P (g .written) s h
 
-  alone : (w z : Run) (s t : Status) → Complete P w s → Complete P (w ++ z) t → (z ≡ []) × (s ≡ t)
+  alone : NoPrefix P
   alone w [] s t c d =
       let b : Begins P w = ([], t, d) in
       (refl, ending-one s t (sym (ends-told w b s .1 c) ∙ ends-told w b t .1 (rw append-nil at d)))

@@ -35,6 +35,10 @@ occurrences n w = sumOfRun (λ m. cond (eqb n m) 1 0) w
 abbrev pub Begins : Process → Run → Type 0
 Begins P w = (z : Run) × (s : Status) × Complete P (w ++ z) s
 
+-- No complete run of P is a proper beginning of another, and it has one status.
+abbrev pub NoPrefix : Process → Type 0
+NoPrefix P = (w z : Run) (s t : Status) → Complete P w s → Complete P (w ++ z) t → (z ≡ []) × (s ≡ t)
+
 -- What the cells with so many levels of undos tell of P.
 pub record Beginnings (depth : ℕ) (P : Process) : Type 0 where
   -- the empty list begins a run
@@ -53,8 +57,8 @@ pub record Beginnings (depth : ℕ) (P : Process) : Type 0 where
   pub goes-on : (w : Run) → Begins P w → ((s : Status) × (toldEnded depth P w ≡ ending s)) ⊎ ((n : ℕ) × Holds (toldNext depth P w) n)
   -- and never both: where the run may end, no leaf is told as next
   pub over : (w : Run) (s : Status) → toldEnded depth P w ≡ ending s → toldNext depth P w ≡ 0
-  -- the same of runs: no complete run is a proper beginning of another, and it has one status
-  pub no-prefix : (w z : Run) (s t : Status) → Complete P w s → Complete P (w ++ z) t → (z ≡ []) × (s ≡ t)
+  -- the same of runs: what is complete does not go on
+  pub no-prefix : NoPrefix P
   -- "a leaf occurs at most once in a run": in a beginning, and so in a complete run
   pub once : (w : Run) → Begins P w → (n : ℕ) → occurrences n w ≤ 1
 
