@@ -22,10 +22,9 @@ use Rattle.state.specs.declared.Entry.{Entry}
 use Rattle.job.specs.declared.Told.{Told}
 use Rattle.job.specs.declared.Taken.{Taken}
 use Rattle.job.proofs.Good.{not-taken, taken-so, record-more}
-use Rattle.job.proofs.Onward.{end-told}
 use Rattle.job.proofs.Standing.{refuses-so, tells, Fine, reached, may, continues, told-is}
 
--- what is told of an ending is told of no other
+-- what is told of an ending is told of no other, and it is its status's number
 ending-told : (x : Ended) (s : Status) → endNumber (endOf x) ≡ statusNumber s → x ≡ ending s
 ending-told ended.Open ok e = absurd (omega arith)
 ending-told ended.Open fail e = absurd (omega arith)
@@ -33,6 +32,10 @@ ending-told ended.Succeeded ok e = refl
 ending-told ended.Succeeded fail e = absurd (omega arith)
 ending-told ended.Failed ok e = absurd (omega arith)
 ending-told ended.Failed fail e = refl
+
+end-told : (x : Ended) (t : Status) → x ≡ ending t → endNumber (endOf x) ≡ statusNumber t
+end-told x ok e = rw e
+end-told x fail e = rw e
 
 module _ (s : List ℕ) (l : Layout) (acc : readOf s ≡ Accepted l) (x : Standing) (f : Fine s l acc x) where
   abbrev P : Process

@@ -9,8 +9,8 @@ pub mod Followed
 pub mod Good
 pub mod Standing
 pub mod Unused
-pub mod Onward
 pub mod Honest
+pub mod Onward
 pub mod Real
 pub mod Demand2
 pub mod TakesAll

@@ -43,7 +43,8 @@ lines sequence =
     ∷ line failed (0 ∷ []) the-left
     ∷ []
 -- Both at least 1: failed if either is at least 4; undo not run if both not run, succeeded if both succeeded, failed if both ran and
--- either failed; otherwise 7: "parallel cells with exactly one code 0 become 7, as do those where one undo failed and the other was not run"
+-- either failed; otherwise 7: "parallel cells with exactly one code 0 become 7, as do those where one undo failed and the other was not
+-- run"
 lines parallel =
     line (0 ∷ []) (0 ∷ []) (the-code 0)
     ∷ line (1 ∷ 4 ∷ []) (1 ∷ 4 ∷ []) (failed-if-either 1)

@@ -1,5 +1,5 @@
-// The outcome chart as a constant table: document 01's 245 codes, a parallel's as document 02 (N6) amends them, for forms 3 to 7, left code 0 to 6, right code 0 to 6, the right changing
-// fastest.
+// The outcome chart as a constant table: document 01's 245 codes, a parallel's as document 02 (N6) amends them, for forms 3 to 7, left
+// code 0 to 6, right code 0 to 6, the right changing fastest.
 ghost use mathlib.Core.Path.{_≡_};
 ghost use Rattle.outcomes.specs.Cells.{cell};
 ghost use Rattle.outcomes.specs.Table.{cellIn, chart};
