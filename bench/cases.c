@@ -50,6 +50,16 @@
 #define FULL_HALF "01|2|3|4|5|6|7|8|9|t| ts+ > s ts+ / |"
 #define FULL FULL_HALF FULL_HALF "|"
 
+/* Which the set of all ten actions alone breaks. */
+#define NOT_ALL_TEN "01&2&3&4&5&6&7&8&9& !"
+
+/* Ten actions at three leaves each, and two leaves more: hard for the search for the plainest run, since it is long in doubt which leaf of an action can
+   finish. Found by changing plans, at first random ones, for as long as the search took more folds. The first has choices and parallels alone, the second all forms. */
+#define HARD_TYPES "3331311333"
+#define HARD "000|4|4||41||12|15252||||39889++9+787++|6t||+33|||||65+6|t7|+||"
+#define HARD_ALL_FORMS_TYPES "1133133333"
+#define HARD_ALL_FORMS "tt|1116;;5/63|324;0|2;/307|679+>>;|;05/||||8452|4;/|799>88|>;>|"
+
 const struct named_case CASES[] = {
     /* Examples 1 to 5: (Charge with undo Credit), then ProcessOrder; both of the first and third, or neither. Whole. */
     {"SimpleOrder", "313", "01", "01/ 2;", "02& 0!2!& |"},
@@ -86,7 +96,11 @@ const struct named_case CASES[] = {
     /* Full families. The late rule is "not all ten", which the last set alone breaks. */
     {"full families", "3333333333", "", FULL, YES(0)},
     {"full, long rule", "3333333333", "", FULL, YES_127},
-    {"full, late set", "3333333333", "", FULL, "01&2&3&4&5&6&7&8&9& !"},
+    {"full, late set", "3333333333", "", FULL, NOT_ALL_TEN},
+
+    /* The search for the run: 244,337 folds, and 513,552. */
+    {"hard run", HARD_TYPES, "", HARD, NOT_ALL_TEN},
+    {"hard run, all forms", HARD_ALL_FORMS_TYPES, "", HARD_ALL_FORMS, NOT_ALL_TEN},
 };
 
 const unsigned CASE_COUNT = sizeof CASES / sizeof *CASES;

@@ -1,4 +1,4 @@
-/* The named cases: plans from the report, and plans with as many sets as there can be. */
+/* The named cases: plans from the report, plans with as many sets as there can be, and plans whose run is hard to find. */
 #ifndef CASES_H
 #define CASES_H
 

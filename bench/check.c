@@ -3,7 +3,7 @@
 
 #include <string.h>
 
-#include "reader.h"
+#include "plainer.h"
 #include "verdict.h"
 
 void fill_areas(struct answer *a, uint64_t seed)
@@ -20,6 +20,9 @@ static int all_zero(const uint8_t *b, size_t n)
         b++, n--;
     return n == 0;
 }
+
+/* More than any set of ten actions. */
+enum { NO_SET = 1 << MOST_ACTIONS };
 
 /* The two values of a part of the rule, by the words of documents 01 and 02. */
 struct value {
@@ -51,70 +54,53 @@ static struct value part(const struct layout *p, unsigned set, unsigned *at)
     return (struct value){left.positive || right.positive, left.negative && right.negative};
 }
 
-/* Of a node in a complete run: whether it began and failed; whether it left an undo, and that began. */
-struct part_run {
-    int began, failed, undo, undo_began;
-};
-
-static struct part_run either(struct part_run x, struct part_run y)
+/* The run in a record, up to the first entry without an outcome. */
+static struct run run_in(const uint8_t *record)
 {
-    return (struct part_run){x.began || y.began, x.failed || y.failed, x.undo || y.undo, x.undo_began || y.undo_began};
+    struct run w = {0};
+    for (; w.len < MOST_NODES && record[2 * w.len + 1]; w.len++)
+        w.leaf[w.len] = record[2 * w.len], w.outcome[w.len] = record[2 * w.len + 1];
+    return w;
 }
 
-static struct part_run composite(unsigned form, struct part_run x, struct part_run y)
+/* The actions that finish, as a set; NO_SET where an entry names no leaf, or one that ran. */
+static unsigned set_left(const struct layout *p, const struct run *w)
 {
-    int succeeded = x.began && !x.failed;
-    switch (form) {
-    case COMPENSATION:
-        return succeeded ? (struct part_run){1, 0, 1, y.began} : x;
-    case HANDLER:
-        return x.failed ? (struct part_run){1, y.failed, y.undo, y.undo_began} : x;
-    default:
-        return either(x, y);
+    unsigned finished = 0;
+    uint64_t ran = 0;
+    for (unsigned i = 0; i < w->len; i++) {
+        unsigned n = w->leaf[i];
+        if (n >= p->node_count || p->nodes[3 * n] >= SEQUENCE || ran >> n & 1)
+            return NO_SET;
+        ran |= 1ull << n;
+        if (p->nodes[3 * n] == ACTION && w->outcome[i] == 1)
+            finished |= 1u << p->nodes[3 * n + 1];
     }
-}
-
-/* Whether both sides of each parallel began, or neither; and likewise their undos, where both left one. A leaf's outcome is 0 where it did not run. */
-static int both_began(const struct layout *p, const uint8_t outcomes[MOST_NODES])
-{
-    struct part_run runs[MOST_NODES];
-    for (unsigned i = 0; i < p->node_count; i++) {
-        const uint8_t *node = p->nodes + 3 * i;
-        if (node[0] < SEQUENCE) {
-            runs[i] = (struct part_run){outcomes[i] != 0, outcomes[i] == 2, 0, 0};
-            continue;
-        }
-        struct part_run x = runs[node[1]], y = runs[node[2]];
-        if (node[0] == PARALLEL && (x.began != y.began || (x.undo && y.undo && x.undo_began != y.undo_began)))
-            return 0;
-        runs[i] = composite(node[0], x, y);
-    }
-    return 1;
+    return finished;
 }
 
 static const char *run_fault(const struct layout *p, const uint8_t *record, unsigned set)
 {
-    uint8_t outcomes[MOST_NODES] = {0};
-    unsigned finished = 0, i = 0, at = p->rule_len;
-    for (; i < 126 && record[i + 1]; i += 2) {
-        unsigned n = record[i], outcome = record[i + 1];
-        if (n >= p->node_count || p->nodes[3 * n] >= SEQUENCE || outcomes[n])
-            return "an entry names no leaf, or one that ran";
-        outcomes[n] = outcome;
-        const uint8_t *node = p->nodes + 3 * n;
-        unsigned type = node[0] == SKIP ? 1 : node[0] == THROW ? 2 : p->types[node[1]];
-        if (outcome > 2 || (type != 3 && type != outcome))
-            return "a leaf does what it may not";
-        if (node[0] == ACTION && outcome == 1)
-            finished |= 1u << node[1];
-    }
-    if (!all_zero(record + i, 126 - i))
+    struct run w = run_in(record);
+    unsigned at = p->rule_len, left = set_left(p, &w);
+    if (!all_zero(record + 2 * w.len, RECORD - 2 * w.len))
         return "the record is not 0 after the run";
-    if (i == 0 || finished != set)
+    if (left == NO_SET)
+        return "an entry names no leaf, or one that ran";
+    if (left != set)
         return "the run leaves another set";
     if (part(p, set, &at).positive)
         return "the set satisfies the rule";
-    return both_began(p, outcomes) ? 0 : "one side of a parallel never began";
+    return is_complete_run(p, &w) ? 0 : "the run is no complete run of the plan";
+}
+
+const char *plainness_fault(const uint8_t *file, size_t len, const struct answer *after)
+{
+    struct layout p;
+    if (after->result < VIOLATED || after->result >= REFUSED || read_plan(file, len, &p) || p.node_count >= 2 * FEW_LEAVES)
+        return 0;
+    struct run w = run_in(after->record);
+    return is_plainer_run(&p, after->result - VIOLATED, &w) ? "another run is plainer" : 0;
 }
 
 const char *answer_fault(const uint8_t *file, size_t len, const struct answer *before, const struct answer *after)

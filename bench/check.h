@@ -17,8 +17,10 @@ struct answer {
 void fill_areas(struct answer *a, uint64_t seed);
 
 /* What is wrong with an answer to this file, from areas that were as in `before`; a null pointer where nothing is. The run that is shown is
-   held to the plan: leaves that do what they may, each at most once, in both sides of a parallel or in neither, and likewise in their undos; its set is
-   the one given, and that breaks the rule. */
+   held to Figure 2: it is a complete run of the plan; its set is the one given, and that breaks the rule. */
 const char *answer_fault(const uint8_t *file, size_t len, const struct answer *before, const struct answer *after);
+
+/* The same of a run that is not the plainest, by trying all runs, where the plan is small enough for that. */
+const char *plainness_fault(const uint8_t *file, size_t len, const struct answer *after);
 
 #endif

@@ -1,6 +1,6 @@
 /* Random plans, good and damaged, and lent areas of any size: the proved verdict and the C one must answer the same, and leave the same in
-   every lent byte and in those past them; compiled with BEFORE, another build of the proved one too; with ALIKE, files that an earlier one answers alike
-   (plans.h). fuzz [COUNT [SEED]]; it ends with 1 at the first disagreement, which it prints. */
+   every lent byte and in those past them; compiled with BEFORE, another build of the proved one too, but for the run that it shows; with ALIKE, files that an
+   earlier one answers alike (plans.h). fuzz [COUNT [SEED]]; it ends with 1 at the first disagreement, which it prints. */
 #include <stdio.h>
 #include <stdlib.h>
 #include <string.h>
@@ -16,7 +16,7 @@ struct trial {
 };
 
 static struct answer before, proved, other;
-static unsigned long consistent, violated, refused[16];
+static unsigned long consistent, violated, entries, refused[16];
 
 static void ask(verdict_fn *f, const struct trial *t, struct answer *a)
 {
@@ -60,6 +60,17 @@ static const char *difference(verdict_fn *f, const struct trial *t)
     return 0;
 }
 
+#ifdef BEFORE
+/* The same of another build, which may show any run that leaves the set. */
+static const char *difference_before(const struct trial *t)
+{
+    const char *fault = difference(vodjimar_before, t);
+    if (!fault || proved.result != other.result || proved.result < VIOLATED || proved.result >= REFUSED)
+        return fault;
+    return answer_fault(t->file.bytes, t->file.len, &before, &other);
+}
+#endif
+
 static int differ(const struct trial *t, uint64_t seed)
 {
     const char *fault;
@@ -69,7 +80,7 @@ static int differ(const struct trial *t, uint64_t seed)
     if (memcmp(&kept, &t->file, sizeof kept))
         return report(t, "proved", "the file was changed");
 #ifdef BEFORE
-    fault = difference(vodjimar_before, t);
+    fault = difference_before(t);
     if (fault)
         return report(t, "before", fault);
 #endif
@@ -77,17 +88,22 @@ static int differ(const struct trial *t, uint64_t seed)
     if (fault)
         return report(t, "C", fault);
     fault = answer_fault(t->file.bytes, t->file.len, &before, &proved);
+    if (!fault)
+        fault = plainness_fault(t->file.bytes, t->file.len, &proved);
     return fault ? report(t, "C", fault) : 0;
 }
 
-static void count(uint32_t v)
+static void count(const struct answer *a)
 {
-    if (v == CONSISTENT)
+    if (a->result == CONSISTENT)
         consistent++;
-    else if (v < REFUSED)
+    else if (a->result >= REFUSED)
+        refused[(a->result - REFUSED) % 16]++;
+    else {
         violated++;
-    else
-        refused[(v - REFUSED) % 16]++;
+        for (unsigned i = 0; i < RECORD && a->record[i + 1]; i += 2)
+            entries++;
+    }
 }
 
 /* Most areas are large enough, to the byte or with room to spare; some are not, mostly by one byte. */
@@ -106,6 +122,8 @@ static size_t random_length(uint64_t *state, size_t need, size_t room)
 static void random_file(uint64_t *state, struct plan_file *f)
 {
     random_plan(state, f);
+    if (below(state, 3) == 0)
+        aim(state, f);
     if (below(state, 5) < 2)
         for (unsigned k = 1 + below(state, 2); k > 0; k--)
             damage(state, f);
@@ -143,10 +161,10 @@ int main(int argc, char **argv)
             printf("at plan %lu of seed %llu\n", i, (unsigned long long)seed);
             return 1;
         }
-        count(proved.result);
+        count(&proved);
     }
-    printf("%lu random plans, seed %llu, and %u named ones: no disagreement\nconsistent %lu, violated %lu, refused by number:", total,
-           (unsigned long long)seed, named, consistent, violated);
+    printf("%lu random plans, seed %llu, and %u named ones: no disagreement\nconsistent %lu, violated %lu with %lu entries, refused by number:", total,
+           (unsigned long long)seed, named, consistent, violated, entries);
     for (unsigned n = 0; n < 16; n++)
         if (refused[n])
             printf(" %u: %lu", n, refused[n]);

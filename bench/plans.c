@@ -3,6 +3,8 @@
 
 #include <string.h>
 
+#include "summary.h"
+
 void add_pair(struct plan *p, unsigned action, unsigned undo)
 {
     p->pairs[2 * p->pair_count] = action;
@@ -158,6 +160,39 @@ void random_plan(uint64_t *state, struct plan_file *out)
     random_nodes(state, &p, below(state, 8) ? 1 + below(state, 32) : 32);
     random_rule(state, &p, below(state, 8) ? 1 + below(state, 12) : 1 + below(state, 64));
     write_plan(&p, out);
+}
+
+/* Any set of the family, which has one. */
+static unsigned random_set(uint64_t *state, const word *sets)
+{
+    unsigned set = below(state, SETS);
+    while (!family_has(sets, set))
+        set = (set + 1) % SETS;
+    return set;
+}
+
+void aim(uint64_t *state, struct plan_file *f)
+{
+    static word area[SUMMARY_WORDS * MOST_NODES];
+    static const uint8_t not_and[2] = {NOT, AND};
+    word sets[WORDS];
+    struct layout from;
+    struct plan p = {0};
+    if (read_plan(f->bytes, f->len, &from))
+        return;
+    summarise(&from, area);
+    final_sets(area, from.node_count - 1, sets);
+    unsigned set = random_set(state, sets);
+    p.actions = from.actions, p.node_count = from.node_count;
+    memcpy(p.types, from.types, from.actions);
+    memcpy(p.nodes, from.nodes, 3 * from.node_count);
+    for (uint8_t a = 0; a < p.actions; a++) {
+        add_rule(&p, &a, 1);
+        add_rule(&p, not_and, !(set >> a & 1));
+        add_rule(&p, not_and + 1, a > 0);
+    }
+    add_rule(&p, not_and, 1);
+    write_plan(&p, f);
 }
 
 /* Where the heading of block k, 0 to 3, of a whole file stands; of a broken one, an earlier one. */

@@ -39,6 +39,9 @@ enum { PLAN_UNDOS = MOST_UNDOS, PLAN_PARALLELS = 1 };
 /* A plan that no check refuses: 1 to 10 actions, 1 to 32 leaves, all forms, pairs and nodes in any order that the file permits. */
 void random_plan(uint64_t *state, struct plan_file *out);
 
+/* Gives a plan a rule that one of its own sets breaks, and no other, and takes its pairs away: so long runs are shown too. */
+void aim(uint64_t *state, struct plan_file *f);
+
 /* Changes a file in one place: a byte changed, cut, extended, a length moved, and so on. Most are then refused, not all. */
 void damage(uint64_t *state, struct plan_file *f);
 

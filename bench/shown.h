@@ -1,10 +1,11 @@
-/* The run that a verdict shows. */
+/* The run that a verdict shows: the plainest. */
 #ifndef SHOWN_H
 #define SHOWN_H
 
-#include "summary.h"
+#include "reader.h"
 
-/* Writes to `record`, 126 bytes, a complete run that leaves the set, which is one of the plan's sets. */
-void show_run(const struct layout *p, const word *area, unsigned set, uint8_t *record);
+/* Writes to `record`, 126 bytes, of the complete runs that leave the set, which is one of the plan's sets, one with the fewest failed entries, and of those
+   the first in byte order. */
+void show_run(const struct layout *p, unsigned set, uint8_t *record);
 
 #endif

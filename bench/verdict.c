@@ -1,4 +1,4 @@
-/* The verdict: read, fold, scan for the least violating set, show a run, clear the work area. */
+/* The verdict: read, fold, scan for the least violating set, show its plainest run, clear the work area. */
 #include "verdict.h"
 
 #include <string.h>
@@ -86,7 +86,7 @@ uint32_t plain_verdict(const uint8_t *file, size_t file_len, uint8_t *work, size
     final_sets(area, plan.node_count - 1, sets);
     unsigned set = least_violating(&plan, sets);
     if (set < SETS)
-        show_run(&plan, area, set, record);
+        show_run(&plan, set, record);
     else
         memset(record, 0, RECORD);
     memset(work, 0, WORK);

@@ -1,11 +1,11 @@
 #!/usr/bin/env python3
 """Runs the built programs target/bin/verdict and run on random plans and compares them with the model: tests/fuzz_verdict.py MODEL COUNT SEED [one]
 
-MODEL is the folder of the model (plans.py says which). The programs must have been built, by `rt check verdict run`. The verdict and its set are the
-model's. A run that is shown must be taken entry by entry by the model's runner, and end there; it must leave the set; of a small plan it is
-held against all runs as well. Then it is offered line by line to the program `run`, which must take every entry and say that the run may end.
-The script ends with status 1 at the first plan in which something differs, and prints it. With `one` the plans are those that read the same where an
-action has one undo at most and there are nine pairs at most, and that have no parallel.
+MODEL is the folder of the model (plans.py says which). The programs must have been built, by `rt check verdict run`. All that `verdict` writes is what the
+model has, the run that is shown included: that of a small plan is found among all of its runs, that of a large one by the model's search (shown.py). Then the
+run is offered line by line to the program `run`, which must take every entry and say that the run may end. The script ends with status 1 at the first
+plan in which something differs, and prints it. With `one` the plans are those that read the same where an action has one undo at most and there are nine
+pairs at most, and that have no parallel.
 """
 import collections
 import os
@@ -15,21 +15,24 @@ import sys
 import tempfile
 from concurrent.futures import ThreadPoolExecutor
 
-from plans import asked, damaged, made, random_plan
-from sessions import FEW_LEAVES, Model, leaves_of
+from plans import asked, crowded_plan, damaged, made, random_plan
+from shown import is_small
+from stored import verdict_lines
 from verdicts import not_just, with_rule
 
 
 def random_file(cells, rng, undos):
-    """a plan as it is, or with a rule that one of its own sets breaks and no other, so that long runs are shown; some damaged"""
-    file = random_plan(cells, rng, undos=undos)
+    """a plan, two of three of them with few actions at many leaves, as it is, or with a rule that one of its own sets breaks and no other, one of the larger, so that long runs
+    are shown; some damaged"""
+    file = crowded_plan(cells, rng, undos) if rng.randrange(3) else random_plan(cells, rng, undos=undos)
     what = rng.randrange(8)
     if what == 0:
         return damaged(rng, file)
     if what < 4:
         return file
     types, _, nodes, _ = cells.parse(bytes(file))
-    return with_rule(cells, file, not_just(len(types), rng.choice(sorted(cells.plan_sets(cells.tree_of(nodes, types))))))
+    sets = sorted(cells.plan_sets(cells.tree_of(nodes, types)))
+    return with_rule(cells, file, not_just(len(types), max(rng.choices(sets, k=3), key=int.bit_count)))
 
 
 def said(command, data):
@@ -38,19 +41,6 @@ def said(command, data):
     if run.returncode or run.stderr:
         return f'status {run.returncode}, {run.stderr!r}'
     return run.stdout.decode('ascii', 'replace')
-
-
-def fault_of_run(cells, file, number, entries):
-    """why the entries are no run of the plan that leaves the set; '' where they are"""
-    model = Model(cells, file)
-    for entry in entries:
-        if model.take(entry) is None:
-            return f'{entry} is refused'
-    if model.told[1] is None:
-        return 'the run may not end'
-    if cells.set_of(entries, model.tree) != number:
-        return 'the run leaves another set'
-    return cells.shown_run_faults(file, number, entries) if len(leaves_of(model.tree)) <= FEW_LEAVES else ''
 
 
 def fault_of_session(run, file, entries):
@@ -66,16 +56,16 @@ def fault_of_session(run, file, entries):
 
 def fault_of(cells, programs, file, text):
     """what is wrong with the text that the program wrote for the file; '' where nothing is"""
-    expected = cells.verdict(bytes(file))
-    first, *rest = text.split('\n')
-    if first != ' '.join(str(part) for part in expected):
-        return f'expected {expected}'
-    if expected[0] != 'violated':
-        return '' if rest == [''] else 'something follows'
-    if rest[-1] != '':
-        return 'the last line has no end'
-    entries = [tuple(int(part) for part in line.split(' ')) for line in rest[:-1]]
-    return fault_of_run(cells, bytes(file), expected[1], entries) or fault_of_session(programs['run'], bytes(file), entries)
+    expected = verdict_lines(cells, file)
+    if text != expected:
+        return f'expected {expected!r}'
+    entries = [tuple(int(part) for part in line.split(' ')) for line in text.splitlines()[1:]]
+    return fault_of_session(programs['run'], bytes(file), entries) if entries else ''
+
+
+def has_few_runs(cells, file):
+    types, _, nodes, _ = cells.parse(bytes(file))
+    return is_small(cells.tree_of(nodes, types))
 
 
 def main():
@@ -83,7 +73,7 @@ def main():
     root = os.path.dirname(os.path.dirname(os.path.abspath(__file__)))
     programs = {name: os.path.join(root, 'target', 'bin', name) for name in ('verdict', 'run')}
     rng = random.Random(seed)
-    met, entries = collections.Counter(), 0
+    met, entries, small = collections.Counter(), 0, 0
     with ThreadPoolExecutor(2) as pool:
         for start in range(0, count, 200):
             files = [made(cells, undos, lambda: random_file(cells, rng, undos)) for _ in range(min(200, count - start))]
@@ -94,7 +84,8 @@ def main():
                     sys.exit(1)
                 met[text.split(' ')[0].strip()] += 1
                 entries += max(0, text.count('\n') - 1)
-    print(f'{count} plans agree: {dict(met)}, {entries} entries shown')
+                small += text.startswith('violated') and has_few_runs(cells, file)
+    print(f'{count} plans agree: {dict(met)}, {entries} entries shown, {small} runs held against all runs of their plans')
 
 
 main()

@@ -12,12 +12,14 @@ import os
 import random
 import sys
 
-from office import MENDED, SWALLOWED, WITHDRAWN
+from office import MENDED, RETRIED, SWALLOWED, WITHDRAWN
 from parallels import every_run, every_set
+from plainest import every_set_left
 from plans import (CHOICE, COMPENSATION, HANDLER, PARALLEL, SEQUENCE, SKIP, THROW, TWENTY_ONE, block, blocks_of, damaged, flat, model_in, named, number_of,
                    random_plan, whole)
 from sessions import Model, permitted, random_entries, session_of
-from stored import chart_lines, inspect_lines, stored_cases, verdict_lines
+from shown import RECORD
+from stored import chart_lines, inspect_lines, other_records, stored_cases, verdict_lines
 from verdicts import verdict_vectors
 
 SEED_PLANS, PLANS = 20071, 300
@@ -78,6 +80,9 @@ NESTED = [SKIP, SKIP, (COMPENSATION, 0, 1), SKIP, (COMPENSATION, 3, 2)]
 # (0 with undo 1) in parallel with (2 with undo 3), then a throw; of these 1 alone may fail, and the rule is action 3
 UNDONE_TOGETHER = whole([1, 3, 1, 1], (), [(0, 0, 0), (0, 1, 0), (COMPENSATION, 0, 1), (0, 2, 0), (0, 3, 0), (COMPENSATION, 3, 4), (PARALLEL, 2, 5),
                                            THROW, (SEQUENCE, 6, 7)], [3])
+
+# (0, then 1) in parallel with (2, then 3), the leaves numbered so that the run first in byte order changes sides at each entry; the rule is "not 3"
+TAKEN_IN_TURNS = whole([1] * 4, (), [(0, 2, 0), (0, 0, 0), (0, 3, 0), (0, 1, 0), (SEQUENCE, 1, 3), (SEQUENCE, 0, 2), (PARALLEL, 4, 5)], [3, 0x80])
 
 
 def examples_of_table():
@@ -502,7 +507,7 @@ def write_programs(cells, write, of_course):
     # of the examples for one number the last, which is a whole file
     own = {f'refused-{number}': file for _, number, file in examples_of_table() if number not in (None, 8)}
     own |= {'fourth-undo': whole([1] * 5, [(0, u) for u in range(1, 5)]), 'largest': LARGEST, 'too-long': LARGEST + b'\0'}
-    own |= {'undone-together': UNDONE_TOGETHER}
+    own |= {'undone-together': UNDONE_TOGETHER, 'taken-in-turns': TAKEN_IN_TURNS}
     for name, file in own.items():
         write(f'tests/files/{name}.plan', file)
     for name, words, reads, writes in stored_cases(cells, of_course, own):
@@ -527,11 +532,22 @@ def write_differences(write, runs):
     answers = 1 + (len(session) - 13 - int.from_bytes(session[1:3], 'little')) // 12
     some = [runs[0], ('another end', with_another_end(session)), ('of a job', with_another_end(job))]
     write(case + 'data/runs', (len(some) + 1).to_bytes(4, 'little') + data_of(some)[4:])
-    write(case + 'data/verdicts', data_of([('P2', (0).to_bytes(4, 'little') + bytes([0]) + p2)]) + bytes(1))
+    write(case + 'data/verdicts', data_of([('P2', bytes(4 + 1 + RECORD) + p2)]) + bytes(1))
     write(case + 'stdout', b'files: vector 2 (a wrong number): expected 7, found 0\nfiles: 4 vectors, 2 agree\n'
           + f'runs: vector 2 (another end): expected {answers}, found {answers - 1}\n'.encode() +
           b'runs: 3 vectors, 1 agree\nruns: the data file is damaged after these\n'
           b'verdicts: vector 1 (P2): expected 0, found 65538\nverdicts: 1 vectors, 0 agree\nverdicts: the data file is damaged after these\n')
+
+
+def write_other_records(write, runs, verdicts):
+    """the stored case of `compare` whose numbers of verdicts are right, and whose record areas are not"""
+    case = 'tests/stored/compare-other-records/'
+    vectors, lines = other_records(verdicts)
+    write(case + 'program', b'compare\n')
+    write(case + 'data/files', data_of([('P1', bytes([0]) + P1)]))
+    write(case + 'data/runs', data_of(runs[:1]))
+    write(case + 'data/verdicts', data_of(vectors))
+    write(case + 'stdout', ('files: 1 vectors, 1 agree\nruns: 1 vectors, 1 agree\n' + lines).encode())
 
 
 def write_course(cells, write):
@@ -587,15 +603,16 @@ def main():
     write('crates/compare/data/files', files)
     write('crates/compare/data/runs', data_of(runs))
     judged = list(plans_of_document()) + [('swallowed', SWALLOWED), ('mended', MENDED)]
-    withdrawn = ('withdrawn', WITHDRAWN)
-    verdicts = list(verdict_vectors(cells, judged + [withdrawn], itertools.chain(edges_of_lengths(), every_set(cells))))
+    withdrawn, retried = ('withdrawn', WITHDRAWN), ('retried', RETRIED)
+    verdicts = list(verdict_vectors(cells, judged + [withdrawn, retried], itertools.chain(edges_of_lengths(), every_set(cells), every_set_left(cells))))
     write('crates/compare/data/verdicts', data_of(verdicts))
     counts = ''.join(f'{group}: {n} vectors, {n} agree\n' for group, n in (('files', len(vectors)), ('runs', len(runs)), ('verdicts', len(verdicts))))
     write('crates/compare/stdout', counts.encode())
     write_differences(write, runs)
+    write_other_records(write, runs, verdicts)
     write_course(cells, write)
     # last, so that the lines of the others keep their numbers, which docs/GUIDE.md has
-    course = judged + [('broken', whole([3], (), NESTED)), withdrawn]
+    course = judged + [('broken', whole([3], (), NESTED)), withdrawn, retried]
     write_programs(cells, write, {name.lower(): file for name, file in course})
     counts = {number: sum(n == number for _, n, _ in vectors) for number in range(10)}
     print(f'files: {len(vectors)} vectors, {len(files)} bytes; of each number:', ', '.join(f'{k}: {v}' for k, v in counts.items()))

@@ -1,4 +1,4 @@
-"""The office's own story, as three plans: a sweep is measured, stored, a reverberation time computed from it, and the figure filed.
+"""The office's own story, as four plans: a sweep is measured, stored, a reverberation time computed from it, and the figure filed.
 
 What make_vectors.py writes beside P1 to P8. Actions: 0 sweep, 1 store, 2 reverberation time, 3 file; and in the third plan 4 withdraw by the server,
 5 withdraw by hand.
@@ -29,3 +29,10 @@ UNDO = [action(SERVER), SKIP, (7, 2, 3), action(HAND), (3, 4, 5)]
 WITHDRAWN = whole([3, 3, 3, 1, 3, 3], [(STORE, SERVER), (STORE, HAND)],
                   [action(SWEEP), action(STORE)] + UNDO + [(6, 1, 6), (3, 0, 7), action(TIME), (3, 8, 9), action(FILE), (3, 10, 11)],
                   [STORE, STORE, 0x80, 0x82])
+
+# The recording is stored by cable, and once more where that fails, or else over the hall's network, in up to five tries. Where none of them succeeds a
+# skip passes over it, and the figure is filed. So a run that breaks the rule has two failed entries, or five.
+CABLE = [action(STORE), action(STORE), SKIP, (7, 2, 3), (7, 1, 4)]
+NETWORK = [action(STORE)] * 5 + [SKIP, (7, 10, 11), (7, 9, 12), (7, 8, 13), (7, 7, 14), (7, 6, 15)]
+RETRIED = whole([3, 3, 1, 1], (), [action(SWEEP)] + CABLE + NETWORK + [(5, 5, 16), (3, 0, 17), action(TIME), (3, 18, 19), action(FILE), (3, 20, 21)],
+                [FILE, 0x80, STORE, 0x82])

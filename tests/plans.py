@@ -29,13 +29,14 @@ def both_begin(module):
 
 def model_in(folder):
     """the model's module cells.py, which has all of oracle.py's names too, with after.py's reader of files: several undos of an action, and none of an undo;
-    and with both sides of a parallel beginning"""
+    with both sides of a parallel beginning; and with after.py's search for the plainest run of a tree that leaves a set"""
     sys.path.insert(0, folder)
     oracle, cells, after = (importlib.import_module(name) for name in ('oracle', 'cells', 'after'))
     # in both, since what oracle.py defines reads files by oracle.py's name
     oracle.parse = cells.parse = lambda file, several=True: after.parse2(file, several, 1)
     both_begin(oracle)
     both_begin(cells)
+    cells.plainest = after.lazy2
     return cells
 
 
@@ -134,6 +135,22 @@ def random_plan(model, rng, leaves=None, undos=MOST_UNDOS):
     nodes = nodes if undos > 1 else [(SEQUENCE if form == PARALLEL else form, left, right) for form, left, right in nodes]
     rule = model.rand_rule(rng, actions, rng.randrange(0, 7))
     return model.encode(types, random_pairs(rng, actions, undos), nodes, rule)
+
+
+def crowded_plan(model, rng, undos=MOST_UNDOS):
+    """the file of a plan of few actions, each at several leaves, most of which may be left out or may fail: so many runs leave one set"""
+    actions = rng.randrange(1, 6)
+    leaves = rng.choice([3, 4, 5, 6, 6, 8, 10, 12, 20, 32])
+    forms = ['seq', 'handler', 'choice'] + (['par', 'par'] if undos > 1 else ['seq'])
+
+    def tree(leaves, in_undo):
+        if leaves == 1:
+            return rng.choice([('skip',), ('throw',)] + [('act', rng.randrange(actions)) for _ in range(8)])
+        left, form = rng.randrange(1, leaves), rng.choice(forms + ([] if in_undo else ['comp']))
+        return (form, tree(left, in_undo), tree(leaves - left, in_undo or form == 'comp'))
+    nodes = in_another_order(rng, model.nodes_of(tree(leaves, False)))
+    types = [rng.choice([1, 2, 3, 3, 3, 3]) for _ in range(actions)]
+    return model.encode(types, random_pairs(rng, actions, undos), nodes, model.rand_rule(rng, actions, rng.randrange(0, 5)))
 
 
 def random_nodes(model, rng, actions):

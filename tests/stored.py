@@ -1,27 +1,22 @@
 """What the programs are to write, by the model, and the stored cases: commands of ./vodjimar, each with what it is to write.
 
-What make_vectors.py writes to tests/stored and tests/files. A verdict's lines are made for plans of which just one run leaves the set told, since which
-run is shown is left free.
+What make_vectors.py writes to tests/stored and tests/files.
 """
 import sys
 
 from plans import number_of
 from sessions import session_of
+from shown import shown_run
 
 FORMS = {'sequence': 'seq', 'parallel': 'par', 'choice': 'choice', 'compensation': 'comp', 'handler': 'handler'}
 
 
 def verdict_lines(cells, file):
-    """what `verdict` writes: the verdict and, of a violation, the one complete run that leaves its set"""
+    """what `verdict` writes: the verdict and, of a violation, the run that is shown"""
     answer = cells.verdict(bytes(file))
     lines = [answer]
     if answer[0] == 'violated':
-        types, _, nodes, _ = cells.parse(bytes(file))
-        tree = cells.tree_of(nodes, types)
-        runs = [run for run, _ in cells.Sem().complete(tree) if cells.set_of(run, tree) == answer[1]]
-        if len(set(runs)) != 1:
-            sys.exit(f'{bytes(file).hex(" ")}: {len(runs)} runs leave the set {answer[1]}')
-        lines += runs[0]
+        lines += shown_run(cells, file, answer[1])
     return ''.join(' '.join(str(part) for part in line) + '\n' for line in lines)
 
 
@@ -39,6 +34,20 @@ def chart_lines(cells):
     """a table for each form: a row for each left code, a number for each right code"""
     table = lambda form: ''.join(' '.join(str(cells.cell(form, left, right)) for right in range(7)) + '\n' for left in range(7))
     return '\n'.join(f'{name}\n{table(form)}' for name, form in FORMS.items())
+
+
+def with_another_byte(body, at):
+    """a vector of the group `verdicts` that expects the same number and, at this place of the record area, another byte"""
+    return body[:5 + at] + bytes([body[5 + at] ^ 3]) + body[5 + at + 1:]
+
+
+def other_records(verdicts):
+    """vectors of the group `verdicts` with the right number, of which some expect another byte in the record area, in the run of a violation, after "consistent"
+    or after a refusal; and the lines of `compare` on them"""
+    of = dict(verdicts)
+    vectors = [(name, of[name]) for name in ('P1', 'P2')]
+    vectors += [(f'{name}, another byte {at}', with_another_byte(of[name], at)) for name, at in (('P2', 3), ('P1', 125), ('P1, areas 3 too short', 0))]
+    return vectors, 'verdicts: vector 3 (P2, another byte 3): expected 126, found 3\nverdicts: 5 vectors, 2 agree\n'
 
 
 # Sessions by hand: the plan, the lines, and how the last that is told ends.
@@ -71,8 +80,9 @@ SESSIONS = {
     # as many entries as a run can have
     'largest': ('largest', b''.join(b'%d 1\n' % n for n in [0] + list(range(1, 63, 2))), 'may end succeeded'),
 }
-# of p3 and undone-together a program that lets a side never begin has a set that breaks the rule
-CONSISTENT, VIOLATED = ('p1', 'p3', 'mended', 'undone-together'), ('p2', 'p7', 'swallowed', 'withdrawn', 'largest')
+# of p3 and undone-together a program that lets a side never begin has a set that breaks the rule; of retried and taken-in-turns there are runs that are not
+# the plainest: more of it fails, or one side of a parallel is done before the other
+CONSISTENT, VIOLATED = ('p1', 'p3', 'mended', 'undone-together'), ('p2', 'p7', 'swallowed', 'withdrawn', 'largest', 'retried', 'taken-in-turns')
 
 
 def stored_cases(cells, of_course, own):

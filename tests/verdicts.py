@@ -1,14 +1,15 @@
-"""The vectors of the group `verdicts`: plan files and lent areas, with the model's verdict as one number.
+"""The vectors of the group `verdicts`: plan files and lent areas, with the model's verdict as one number and the run that it shows.
 
 What make_vectors.py writes. A vector's body is the number expected, four bytes, the lowest first; a byte that says which areas are a byte too
-short, 1 for the work area and 2 for the record area; and the file. The number is 0 for consistent, 65,536 and the set for violated, and twice
-65,536 and the refusal's number for refused.
+short, 1 for the work area and 2 for the record area; the 126 bytes of a record area that was lent full of zeros, as it is after the verdict; and the file. The
+number is 0 for consistent, 65,536 and the set for violated, and twice 65,536 and the refusal's number for refused.
 """
 import functools
 import random
 import sys
 
 from plans import TWENTY_ONE, damaged, named, random_plan
+from shown import record_of, shown_run
 
 SEED_PLANS, PLANS = 20076, 300
 SEED_BROKEN, BROKEN = 20077, 300
@@ -24,6 +25,11 @@ def code_of(model, file, short=0):
         return REFUSED + (10 if short % 2 else 12)
     answer = model.verdict(bytes(file))
     return {'consistent': lambda: 0, 'violated': lambda s: VIOLATED + s, 'refused': lambda n: REFUSED + n}[answer[0]](*answer[1:])
+
+
+def record_after(model, file, code):
+    """the bytes of the record area after the verdict of this number: the run of a violation, and else nothing"""
+    return record_of(shown_run(model, file, code - VIOLATED) if VIOLATED <= code < REFUSED else ())
 
 
 def not_just(actions, number):
@@ -144,7 +150,7 @@ def plans(model, of_document, edges):
 # what the papers themselves say: documents 01 and, of P3, 02
 SAID = {'P1': 0, 'P2': VIOLATED + 2, 'P3': 0, 'P7': VIOLATED + 2}
 # and the office's story
-SAID |= {'swallowed': VIOLATED + 13, 'mended': 0, 'withdrawn': VIOLATED + 51}
+SAID |= {'swallowed': VIOLATED + 13, 'mended': 0, 'withdrawn': VIOLATED + 51, 'retried': VIOLATED + 13}
 
 
 def verdict_vectors(model, of_document, edges):
@@ -153,4 +159,4 @@ def verdict_vectors(model, of_document, edges):
         code = code_of(model, file, short)
         if SAID.get(name, code) != code:
             sys.exit(f'{name}: the model says {code}, the papers {SAID[name]}')
-        yield name, code.to_bytes(4, 'little') + bytes([short]) + bytes(file)
+        yield name, code.to_bytes(4, 'little') + bytes([short]) + record_after(model, file, code) + bytes(file)

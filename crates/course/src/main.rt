@@ -28,4 +28,5 @@ fn main() {
     plan(b"mended.plan");
     plan(b"broken.plan");
     plan(b"withdrawn.plan");
+    plan(b"retried.plan");
 }

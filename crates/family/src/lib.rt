@@ -1,8 +1,6 @@
 // Families of action sets. An action set is a number below 1,024, bit a for action a; a family has one bit for each of them, in sixteen
 // words of 64 bits.
-ghost use mathlib.Core.Path.{_≡_};
-ghost use lib.Dec.{eqb};
-ghost use Rattle.family.specs.Family.{hasAt, Empty, Single, Joined, TellsEmpty, Having};
+ghost use Rattle.family.specs.Family.{Empty, Single, Joined, TellsEmpty, Having};
 
 // The family with no set.
 pub fn empty() -> [u64; 16]
@@ -21,16 +19,6 @@ pub fn single(s: usize) -> [u64; 16]
     }
     r[s / 64] = 1 << (s % 64);
     r
-}
-
-// Whether the set s is in the family; false at 1,024 and above.
-pub fn member(f: [u64; 16], s: usize) -> bool
-    ensures { λ r. ⌜ r ≡ eqb (hasAt f s) 1 ⌝ }
-{
-    if 1024 <= s {
-        return false;
-    }
-    (f[s / 64] >> (s % 64)) % 2 == 1
 }
 
 // Whether the family has no set.

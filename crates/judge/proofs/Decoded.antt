@@ -7,7 +7,7 @@ use Rattle.process.specs.Process.{ok, fail, Entry, entry, Run}
 use Rattle.state.specs.declared.Entry as bytes
 use Rattle.job.specs.Offer.{runEntry}
 use Rattle.job.proofs.TakesAll.{offered, offered-back}
-use Rattle.shown.specs.Shows.{encode, recordBytes}
+use Rattle.plainest.specs.Bytes.{encode, recordBytes}
 use Rattle.judge.specs.Shown.{shownEntries, shownRun}
 
 zeros-shown : (m : ℕ) → shownEntries (replicate m 0) ≡ []

@@ -34,6 +34,7 @@ use Rattle.judge.specs.declared.Judgement.the-variants.{Violated, Refuse
 use Rattle.judge.proofs.Smallest.{IsSmallest, Tells, smallest-tells}
 use Rattle.judge.proofs.PlanRuns.{left-by, run-set-listed}
 use Rattle.judge.proofs.Decoded.{shown-offered}
+use Rattle.judge.proofs.Plain.{only-shown, one-answer}
 
 front-of : (xs ys : List ℕ) → length xs ≡ recordSize → take recordSize (xs ++ ys) ≡ xs
 front-of xs ys e = subst (λ (n : ℕ). take n (xs ++ ys) ≡ xs) e (take-append-seam xs ys)
@@ -104,11 +105,9 @@ module _ (s : List ℕ) (l : Layout) (h : readOf s ≡ Accepted l) (rule : PlanR
   -- the bytes that a violation leaves in the record area
   violation : (set : ℕ) (bytes : List ℕ) → IsSmallest breaks InList set → ShowsRun s l set bytes → Violation s l rule set bytes
   violation set bytes m r = record {
-    status = r .status;
-    complete = r .complete;
-    leaves = r .leaves;
+    plainest = r .plainest;
     breaks = sym (stack-keeps set) ∙ not-true _ (m .holds);
-    replays = subst (λ (es : List Entry). Replays s l es (r .status)) (sym (ap shownEntries (r .padded) ∙ shown-offered (shownRun bytes))) (replays s l h (shownRun bytes) (r .status) (r .complete));
+    replays = subst (λ (es : List Entry). Replays s l es (r .plainest .status)) (sym (ap shownEntries (r .padded) ∙ shown-offered (shownRun bytes))) (replays s l h (shownRun bytes) (r .plainest .status) (r .plainest .complete));
     smallest = λ run t c k. m .least (runSet s l run) (run-set-listed s l h run t c) (rw (stack-keeps (runSet s l run), k));
   }
 
@@ -143,6 +142,8 @@ module _ (s : List ℕ) (l : Layout) (h : readOf s ≡ Accepted l) (rule : PlanR
 pub demand3 : Demand3
 demand3 = record {
   says = λ s work work′ old new v j enough room l h rule. says s l h rule work work′ old new v j enough room;
+  only-shown = only-shown;
+  one-answer = one-answer;
   no-work = λ s work records h. ap numberOf (short-work s work records h);
   no-record = λ s work records h k. ap numberOf (short-record s work records h k);
   no-plan = λ s work records h k n e. ap numberOf (refused-file s work records h k n e);

@@ -1,6 +1,6 @@
 -- Demand 3, over the runner's own entries: "consistent" is said exactly where every complete run of the plan leaves a set that satisfies
--- its rule; else the smallest set that breaks it is given, with a complete run that leaves it, which a fresh job of the plan takes entry
--- by entry to its end. `demand3` in proofs/ proves it of every answer that the contract of `verdict` admits.
+-- its rule; else the smallest set that breaks it is given, with the plainest complete run that leaves it (N7 of document 02), which a fresh job of the plan
+-- takes entry by entry to its end. `demand3` in proofs/ proves it of every answer that the contract of `verdict` admits; of one input there is one.
 use mathlib.Core.Path.{_≡_}
 use mathlib.Core.Bool.{Bool, true, false}
 use mathlib.Core.List.{List}
@@ -19,8 +19,8 @@ use Rattle.state.specs.declared.Entry.{Entry}
 use Rattle.job.specs.Offer.{started, TakesToEnd}
 use Rattle.job.specs.Demand2.{planProcess}
 use Rattle.judge.specs.Verdict.{workSize, recordSize, verdictOf, numberOf, saysConsistent, setGiven}
-use Rattle.judge.specs.Shown.{shownEntries, shownRun, runSet}
-use Rattle.judge.specs.Judged.{Judged}
+use Rattle.judge.specs.Shown.{shownEntries, shownRun, runSet, PlainestOf, OnlyShown}
+use Rattle.judge.specs.Judged.{Judged, OneAnswer}
 use Rattle.judge.specs.declared.Judgement.{Judgement}
 
 -- "A run is offered to a fresh job where its first entry goes to the job that the start gave and each later one to the job that the one
@@ -43,11 +43,10 @@ AllKeep s l rule = (run : Run) (status : Status) → Complete (planProcess s l) 
 
 -- The set, with the run in these record bytes, is what breaks the rule, and no complete run that breaks it leaves a smaller set.
 pub record Violation (s : List ℕ) (l : Layout) (rule : PlanRule s l) (set : ℕ) (bytes : List ℕ) : Type 0 where
-  pub status : Status
-  pub complete : Complete (planProcess s l) (shownRun bytes) status
-  pub leaves : runSet s l (shownRun bytes) ≡ set
+  -- the run is complete and leaves the set; no complete run that leaves it has fewer failed entries, and of none with as many the record bytes come first
+  pub plainest : PlainestOf s l set (shownRun bytes)
   pub breaks : keeps s l rule set ≡ false
-  pub replays : Replays s l (shownEntries bytes) status
+  pub replays : Replays s l (shownEntries bytes) (plainest .status)
   pub smallest : (run : Run) (t : Status) → Complete (planProcess s l) run t → keeps s l rule (runSet s l run) ≡ false → set ≤ runSet s l run
 
 -- What an answer says, of an accepted plan file.
@@ -60,6 +59,9 @@ pub record Demand3 : Type 0 where
   -- an accepted file, and areas that are large enough
   pub says : (s work work′ old new : List ℕ) (v : Judgement) → Judged s work work′ old new v → workSize ≤ length work → recordSize ≤ length old
       → (l : Layout) → readOf s ≡ Accepted l → (rule : PlanRule s l) → Says s l rule new v
+  -- the run shown is the only one that may be, and so is the whole answer
+  pub only-shown : OnlyShown
+  pub one-answer : OneAnswer
   -- every other input is refused: 10, then 12, then by the file's number
   pub no-work : (s : List ℕ) (work records : ℕ) → work < workSize → numberOf (verdictOf s work records) ≡ 10
   pub no-record : (s : List ℕ) (work records : ℕ) → workSize ≤ work → records < recordSize → numberOf (verdictOf s work records) ≡ 12

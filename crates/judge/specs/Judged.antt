@@ -1,4 +1,4 @@
--- What `verdict` makes of its answer and of the two lent areas, on every input. Only which run is shown is left free.
+-- What `verdict` makes of its answer and of the two lent areas, on every input. Nothing is left free (`OneAnswer`).
 use mathlib.Core.Path.{_≡_}
 use mathlib.Core.List.{List, _++_}
 use Prim.Native.Nat.{ℕ}
@@ -43,3 +43,12 @@ pub record Judged (s work work′ old new : List ℕ) (v : Judgement) : Type 0 w
   pub answer : v ≡ verdictOf s (length work) (length old)
   pub work-after : work′ ≡ workAfter v work
   pub record-after : RecordAfter s v old new
+
+-- On one input there is one answer, and one thing that it leaves in each area. The proof is `one-answer`.
+pub record Same (v v′ : Judgement) (work work′ shown shown′ : List ℕ) : Type 0 where
+  pub answers : v ≡ v′
+  pub works : work ≡ work′
+  pub records : shown ≡ shown′
+
+abbrev pub OneAnswer : Type 0
+OneAnswer = (s work work′ work″ old new new′ : List ℕ) (v v′ : Judgement) → Judged s work work′ old new v → Judged s work work″ old new′ v′ → Same v v′ work′ work″ new new′

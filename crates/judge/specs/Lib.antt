@@ -1,5 +1,6 @@
 pub mod Verdict
 pub mod Shown
 pub mod Judged
+pub mod Record
 pub mod Inner
 pub mod Demand3

@@ -6,16 +6,16 @@ use mathlib.Core.List.{List, [], _∷_, map}
 use Prim.Native.Nat.{ℕ}
 use lib.Dec.{eqb}
 use lib.ListN.{length}
-use Rattle.process.specs.Process.{Status, Process, Run}
-use Rattle.process.specs.Figure2.{Complete}
+use Rattle.process.specs.Process.{Run}
 use Rattle.outcomes.specs.Sets.{setOf}
 use Rattle.plan.specs.Reading.{bytesOf}
 use Rattle.plan.specs.declared.Layout.{Layout}
 use Rattle.state.specs.declared.Entry.{Entry}
 use Rattle.job.specs.Offer.{runEntry}
 use Rattle.job.specs.Demand2.{planProcess}
-use Rattle.sets.specs.PlanSets.{actionSets}
-use Rattle.shown.specs.Shows.{recordBytes}
+use Rattle.sets.specs.PlanSets.{leafSet, actionSets}
+use Rattle.plainest.specs.Bytes.{recordBytes}
+use Rattle.plainest.specs.Plainest.{Plainest}
 
 -- the entries before the first whose second byte is 0, or all
 unfoldable pub shownEntries : List ℕ → List Entry
@@ -31,10 +31,16 @@ shownRun r = map runEntry (shownEntries r)
 abbrev pub runSet : List ℕ → Layout → Run → ℕ
 runSet s l run = setOf (actionSets (bytesOf s (l .nodes))) run
 
--- The bytes hold a complete run of the plan that leaves the set, and then zeros.
+-- Of the complete runs of the plan that leave the set one with the fewest failed entries, and of these the one whose record bytes come first.
+abbrev pub PlainestOf : List ℕ → Layout → ℕ → Run → Type 0
+PlainestOf s l set run = Plainest (planProcess s l) (leafSet (bytesOf s (l .nodes))) set run
+
+-- The bytes hold the run to show beside the set (N7), and then zeros.
 pub record ShowsRun (s : List ℕ) (l : Layout) (set : ℕ) (bytes : List ℕ) : Type 0 where
-  pub status : Status
-  pub complete : Complete (planProcess s l) (shownRun bytes) status
-  pub leaves : runSet s l (shownRun bytes) ≡ set
+  pub plainest : PlainestOf s l set (shownRun bytes)
   pub long : length bytes ≡ 126
   pub padded : bytes ≡ recordBytes (shownRun bytes)
+
+-- There is at most one list of bytes that does. The proof is `only-shown`.
+abbrev pub OnlyShown : Type 0
+OnlyShown = (s : List ℕ) (l : Layout) (set : ℕ) (bytes bytes′ : List ℕ) → ShowsRun s l set bytes → ShowsRun s l set bytes′ → bytes ≡ bytes′

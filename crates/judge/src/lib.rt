@@ -1,18 +1,15 @@
-// The verdict on a plan: consistent, or the smallest set that breaks its rule with a complete run that leaves it.
+// The verdict on a plan: consistent, or the smallest set that breaks its rule with the plainest complete run that leaves it.
 ghost use mathlib.Core.Path.{_≡_};
 ghost use Prim.Native.Nat.{_≤_};
 ghost use lib.ListN.{length};
-ghost use Rattle.outcomes.specs.Table.{chart};
 ghost use Rattle.plan.specs.PlanFile.{Runnable};
 ghost use Rattle.plan.specs.Reading.{readOf};
-ghost use Rattle.least.specs.Least.{FinalSet};
 ghost use Rattle.judge.specs.Verdict.{workSize, recordSize, codeOf};
 ghost use Rattle.judge.specs.Judged.{Judged};
-ghost use Rattle.judge.specs.Inner.{UnderFinal, Leaving, Leads, JudgedPlan};
+ghost use Rattle.judge.specs.Inner.{JudgedPlan};
 use least::Least;
 use plan::Layout;
 use plan::Reading;
-use summary::Summary;
 
 // The bytes that a work area and a record area must have.
 pub const WORK: usize = 65536;
@@ -42,39 +39,6 @@ pub struct Finding {
     pub run: [u8; 126],
 }
 
-// A code of complete runs that has the set.
-fn final_code(s: Summary, set: usize) -> u8
-    ensures { λ r. ⌜ (FinalSet s set → UnderFinal s set r) ⌝ }
-{
-    let succeeded = s.s1;
-    let undone = s.s5;
-    if family::member(succeeded, set) {
-        return 1;
-    }
-    if family::member(undone, set) {
-        return 5;
-    }
-    6
-}
-
-// The bytes of a run that leaves the set, by the chart from the summaries in the work area.
-fn run_leaving(
-    table: &[u8; 245],
-    types: &[u8],
-    nodes: &[u8],
-    work: &[u8],
-    root: Summary,
-    set: usize,
-) -> [u8; 126]
-    requires { ⌜ Leaving (now types) (now nodes) (now work) root set × (now table ≡ chart) ⌝ }
-    ensures { λ r. ⌜ Leads (now (types .entry)) (now (nodes .entry)) set r ⌝ }
-{
-    let code = final_code(root, set);
-    let marks = derivation::derive(table, types, nodes, work, code, set);
-    let codes = marks.codes;
-    shown::show(types, nodes, &codes)
-}
-
 // Judges a plan by its four bodies. The chart is fetched once, and lent.
 fn judge(types: &[u8], pairs: &[u8], nodes: &[u8], rule: &[u8], work: &mut [u8]) -> Finding
     requires { ⌜ Runnable (now types) (now nodes) × (workSize ≤ length (now work)) ⌝ }
@@ -90,7 +54,7 @@ fn judge(types: &[u8], pairs: &[u8], nodes: &[u8], rule: &[u8], work: &mut [u8])
         },
         Least::Found(set) => Finding {
             judgement: Judgement::Violated(set),
-            run: run_leaving(&table, types, nodes, work, root, set),
+            run: plainest::show(&table, types, nodes, set),
         },
     }
 }

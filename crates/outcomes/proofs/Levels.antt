@@ -7,7 +7,7 @@ use Rattle.process.specs.Process.{Status, ok, fail, Form, sequence, parallel, c
 use Rattle.process.specs.Figure2.{Interleaving, neither, Forward, f-sequence, f-sequence-fails, f-parallel, f-choice-left, f-choice-right, f-compensation, f-compensation-fails, f-handler, f-handler-fails, Complete, c-ok, c-fail}
 use Rattle.outcomes.specs.Codes.{Code, Ends, ends-ok, ends-fail}
 use Rattle.outcomes.specs.Chart.{Join, j-none, j-sequence, j-sequence-fails, j-parallel, j-choice-left, j-choice-right, j-compensation, j-compensation-fails, j-handler, j-handler-fails}
-use Rattle.outcomes.proofs.Interleavings.{left-alone, right-alone, in-turn, swap, end-to-end}
+use Rattle.process.proofs.Interleavings.{left-alone, right-alone, in-turn, swap, end-to-end}
 
 -- P has the code c by the runs rs, one for each level
 pub data Levels : Process → Code → List Run → Type 0 where

@@ -15,7 +15,7 @@ use Rattle.process.specs.Leaves.{AsWritten, SomeLeaf, HasLeaf, Apart, Distinct}
 use Rattle.process.specs.Depth.{rightDepth, undoDepth}
 use Rattle.nodes.specs.Nodes.{count, form, left, right, Side, on-left, on-right, Names, EachNamedOnce, Under, itself, NotNested, Descending}
 use Rattle.plan.specs.Tree.{leafKind, leafOf, compositeOf, processAt, processOf}
-use Rattle.plan.specs.PlanFile.{Runnable}
+use Rattle.plan.specs.PlanFile.{RunnableWithin}
 use Rattle.plan.specs.Demand1.{Drawn}
 use Rattle.nodes.proofs.Fold.{node-ind, fold-leaf, fold-node}
 use Rattle.nodes.proofs.Under.{through, first, all-under-last, apart}
@@ -139,7 +139,7 @@ module _ (types b : List ℕ) (down : Descending b) where
             most _ _ l (rw (six, none) (omega arith))
         go i c f l r (inr e) = most _ _ l (rw (other-depth (form b i) (undoDepth (at (right b i))) (eqb-false (form b i) 6 e)) r)
 
-module _ (types b : List ℕ) (r : Runnable types b) where
+module _ {actionLimit : ℕ} (types b : List ℕ) (r : RunnableWithin actionLimit types b) where
   pub parts-smaller : Descending b
   parts-smaller i c f = r .nodes-hold .keep i c .parts f
 

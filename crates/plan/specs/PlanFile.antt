@@ -81,10 +81,14 @@ pub record PlanFile (actionLimit pairLimit : ℕ) (s : List ℕ) : Type 0 where
   pub blocks : s ≡ block 1 types ++ (block 2 pairs ++ (block 3 nodes ++ block 4 rule))
   pub hold : Bodies actionLimit pairLimit types pairs nodes rule
 
--- What running a plan rests on: its types and its nodes, as an accepted file has them.
-pub record Runnable (types nodes : List ℕ) : Type 0 where
-  pub types-few : length types ≤ mostActions
+-- What running a plan rests on: its types and its nodes, as a file has them that is accepted within a limit for actions.
+pub record RunnableWithin (actionLimit : ℕ) (types nodes : List ℕ) : Type 0 where
+  pub types-few : length types ≤ actionLimit
   pub types-hold : Types types
   pub nodes-some : 3 ≤ length nodes
   pub nodes-few : length nodes ≤ 189
   pub nodes-hold : NodeRules (length types) nodes
+
+-- As an accepted plan file has them.
+abbrev pub Runnable : List ℕ → List ℕ → Type 0
+Runnable types nodes = RunnableWithin mostActions types nodes

@@ -11,6 +11,6 @@ pub promises : Promises
 promises = record {
   refused = demand-1;
   runner = record { starts = demand2 .starts; honest = demand2 .honest; no-prefix = demand2 .no-prefix };
-  verdict = record { rule = λ s l h. demand1 .holds s l h .rule-holds .holds; says = demand3 .says; leaves = leaves };
+  verdict = record { rule = λ s l h. demand1 .holds s l h .rule-holds .holds; says = demand3 .says; leaves = leaves; only-shown = demand3 .only-shown; one-answer = demand3 .one-answer };
   an-end = promised-end;
 }

@@ -2,7 +2,9 @@
 -- choices and the failures that the action types permit, leaves a set of finished actions that satisfies the normalised rule. Otherwise
 -- the verdict gives a set number and shows a complete run of the plan that breaks the rule and leaves exactly that set. When this run is
 -- offered to a fresh job of the plan, every entry is taken, and after the last the runner says that the run may end. And every other
--- complete run of the plan that breaks the rule leaves a set at least as large, read as a binary number."
+-- complete run of the plan that breaks the rule leaves a set at least as large, read as a binary number." Document 02 (N7) adds: "Among complete runs with the smallest
+-- violating set, show one with the fewest failed entries. If several have as few, show the one whose 126 record bytes come first in byte order. Which run is
+-- shown is then no longer left free."
 use mathlib.Core.Path.{_≡_}
 use mathlib.Core.Bool.{true, false}
 use mathlib.Core.List.{List}
@@ -11,10 +13,10 @@ use lib.ListN.{length, take, drop, replicate}
 use Rattle.plan.specs.Reading.{readOf}
 use Rattle.plan.specs.declared.Layout.{Layout}
 use Rattle.plan.specs.declared.Reading.the-variants.{Accepted}
-use Rattle.shown.specs.Shows.{recordBytes}
+use Rattle.plainest.specs.Bytes.{recordBytes}
 use Rattle.judge.specs.Verdict.{workSize, recordSize, saysConsistent}
-use Rattle.judge.specs.Shown.{shownRun}
-use Rattle.judge.specs.Judged.{Judged, clearedWork}
+use Rattle.judge.specs.Shown.{shownRun, OnlyShown}
+use Rattle.judge.specs.Judged.{Judged, OneAnswer, clearedWork}
 use Rattle.judge.specs.Demand3.{PlanRule, Says}
 use Rattle.judge.specs.declared.Judgement.{Judgement}
 
@@ -35,3 +37,6 @@ pub record Demand3 : Type 0 where
   -- and leaves in the lent areas
   pub leaves : (s work work′ old new : List ℕ) (v : Judgement) → Judged s work work′ old new v → workSize ≤ length work → recordSize ≤ length old
       → (l : Layout) → readOf s ≡ Accepted l → AfterVerdict work work′ old new v
+  -- no other bytes may be shown, and on one input there is one answer and one thing left in each area
+  pub only-shown : OnlyShown
+  pub one-answer : OneAnswer

@@ -1,4 +1,4 @@
--- The text that a verdict comes to, for every file. Only which run is shown is left free, and of that `Judged` says what holds.
+-- The text that a verdict comes to, for every file. `Judged` says what the finding is, and there is one.
 use mathlib.Core.Path.{_≡_}
 use mathlib.Core.List.{List, _++_}
 use Prim.Native.Nat.{ℕ}
@@ -27,3 +27,10 @@ pub record TellsNamed (name s : List ℕ) (t : Text) : Type 0 where
   pub finding : Finding
   pub finds : Finds s finding
   pub is : t ≡ appended empty (line name ++ verdictLines (finding .judgement) (finding .run))
+
+-- So there is one text for a file, and one for a name and a file. The proofs are `one-text` and `one-named-text`.
+abbrev pub OneText : Type 0
+OneText = (s : List ℕ) (t t′ : Text) → Tells s t → Tells s t′ → t ≡ t′
+
+abbrev pub OneNamedText : Type 0
+OneNamedText = (name s : List ℕ) (t t′ : Text) → TellsNamed name s t → TellsNamed name s t′ → t ≡ t′

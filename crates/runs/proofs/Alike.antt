@@ -1,18 +1,11 @@
 -- Processes that are one but for empty sides of sequences and parallels have the same runs. The undo of a marked tree drops its empty
 -- sides, and so equals the process that Figure 2 leaves only up to these.
 use mathlib.Core.Path.{_≡_, refl}
-use mathlib.Core.List.{[], _∷_, append-nil}
+use mathlib.Core.List.{[], append-nil}
 use Rattle.process.specs.Process.{Status, ok, fail, Form, Process, done, leaf, node, Run}
 use Rattle.process.specs.Figure2.{both, Interleaving, neither, from-left, from-right, Forward, f-done, f-sequence, f-sequence-fails, f-parallel, Complete, c-ok, c-fail}
+use Rattle.process.proofs.Interleavings.{left-alone, right-alone}
 use Rattle.runs.proofs.Marked.{Marked, fresh, Pairing, in-sequence, in-parallel, joined}
-
-pub interleave-nil : (p : Run) → Interleaving p [] p
-interleave-nil [] = neither
-interleave-nil (e ∷ p) = from-left (interleave-nil p)
-
-pub nil-interleave : (p : Run) → Interleaving [] p p
-nil-interleave [] = neither
-nil-interleave (e ∷ p) = from-right (nil-interleave p)
 
 pub interleave-nil-is : {p r : Run} → Interleaving p [] r → r ≡ p
 interleave-nil-is neither = refl
@@ -59,10 +52,10 @@ alike-forward (drop-right in-sequence) (f-sequence f f-done e) = rw (← e, appe
 alike-forward (drop-right in-sequence) (f-sequence-fails f) = (_, f, alike)
 alike-forward (drop-right in-parallel) (f-parallel {s = s} f f-done m e) = rw (← e, both-ok s, interleave-nil-is m) (_, f, drop-right in-parallel)
 alike-forward (add-left in-sequence) f = (_, f-sequence f-done f refl, add-right in-sequence)
-alike-forward (add-left in-parallel) f = (_, f-parallel f-done f (nil-interleave _) refl, add-left in-parallel)
+alike-forward (add-left in-parallel) f = (_, f-parallel f-done f (right-alone _) refl, add-left in-parallel)
 alike-forward {s = ok} (add-right in-sequence) f = (_, f-sequence f f-done (append-nil _), add-left in-sequence)
 alike-forward {s = fail} (add-right in-sequence) f = (_, f-sequence-fails f, alike)
-alike-forward {s = s} (add-right in-parallel) f = (_, f-parallel f f-done (interleave-nil _) (both-ok s), add-right in-parallel)
+alike-forward {s = s} (add-right in-parallel) f = (_, f-parallel f f-done (left-alone _) (both-ok s), add-right in-parallel)
 
 pub alike-complete : {P N : Process} {p : Run} {s : Status} → Alike P N → Complete P p s → Complete N p s
 alike-complete a (c-ok f) = c-ok (alike-forward a f .1)

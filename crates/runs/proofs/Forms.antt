@@ -12,9 +12,10 @@ use Rattle.runs.specs.declared.Ended.the-variants.{Open, Succeeded, Fail
 use Rattle.runs.specs.Cells.{ending, sequenceEnded, parallelEnded, handlerEnded}
 use Rattle.runs.proofs.Endings.{not-open, ending-one, ParallelEnds, parallel-ends}
 use Rattle.runs.proofs.Marked.{Marked, m-done, m-node, fresh, unmarked, hasBegun, endedAs, in-sequence, in-parallel, undo, WholeEnds, ends-ok, Mode, forward, whole, at-leaf, Steps, still, first, in-turn, Reached, r-waits, r-leaf, r-left, r-both, r-going, r-undoing}
-use Rattle.runs.proofs.Alike.{interleave-nil, alike, joined-stands}
+use Rattle.process.proofs.Interleavings as interleavings
+use Rattle.runs.proofs.Alike.{alike, joined-stands}
 use Rattle.runs.proofs.Undo.{Within, left-within, right-within, UndoWithin, joined-done}
-use Rattle.runs.proofs.Reached.{unmarked-fresh, fresh-begun, fresh-open, fresh-undo, reach-fresh, not-begun, interleave-append, interleaved, whole-failed}
+use Rattle.runs.proofs.Reached.{unmarked-fresh, fresh-begun, fresh-open, fresh-undo, reach-fresh, not-begun, interleaved, whole-failed}
 use Rattle.runs.proofs.Whole.{join, joins, reach-steps, steps-left, steps-right, steps-both, steps-going, RunsTo, RanTo, CanEnd, ForwardRuns, WholeRuns, whole-runs, whole-done}
 use Rattle.process.specs.Leaves.{AsWritten}
 
@@ -121,14 +122,14 @@ module _ {P Q : Process} (wP : AsWritten P) (wQ : AsWritten Q) (FP : ForwardRuns
             (_, f-parallel a b m (x .is-both), joined-stands in-parallel u v)
 
         froms : {p : Run} (s : Status) {T : Marked} → Reached forward (node parallel P Q) p T → endedAs T ≡ ending s → RanTo (node parallel P Q) p s T
-        froms s (r-left {A = A} r) h = by (interleave-nil _) r (reach-fresh Q) (parallel-ends (endedAs A) (endedAs (fresh Q)) s h)
+        froms s (r-left {A = A} r) h = by (interleavings.left-alone _) r (reach-fresh Q) (parallel-ends (endedAs A) (endedAs (fresh Q)) s h)
         froms s (r-both {A = A} {B = B} g r t m) h = by (interleaved m) r t (parallel-ends (endedAs A) (endedAs B) s h)
 
         go-both : {A B : Marked} {p q : Run} → Reached forward P p A → Reached forward Q q B → CanEnd (m-node parallel A B)
         go-both c d =
             let (z, A, s, a, h) = FP .go c in
             let (v, B, t, b, i) = FQ .go d in
-            (z ++ v, m-node parallel A B, both s t, steps-both (interleave-append z v) a b, rw (h, i) (both-ended s t))
+            (z ++ v, m-node parallel A B, both s t, steps-both (interleavings.in-turn z v) a b, rw (h, i) (both-ended s t))
 
         gos : {p : Run} {T : Marked} → Reached forward (node parallel P Q) p T → CanEnd T
         gos (r-left r) = go-both r (reach-fresh Q)

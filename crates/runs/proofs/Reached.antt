@@ -11,7 +11,8 @@ use Rattle.runs.specs.declared.Ended.the-variants.{Open, Succeeded, Fail
 use Rattle.runs.specs.Cells.{isSucceeded, nodeBegun, nodeEnded}
 use Rattle.runs.proofs.Endings.{hasRun, ending-run, not-both, of-not, not-open, not-failed, or-true, or-false}
 use Rattle.runs.proofs.Marked.{Marked, m-done, m-leaf, m-node, fresh, unmarked, hasBegun, endedAs, joined, undo, nodeUndone, WholeEnds, ends-fail, mark, RightMay, Mode, forward, whole, leftMode, Step, at-leaf, on-left, on-right, going, undoing, Merged, in-turn, mixed, Reached, r-done, r-waits, r-leaf, r-left, r-both, r-going, r-undoing}
-use Rattle.runs.proofs.Alike.{nil-interleave, interleave-nil-is}
+use Rattle.process.proofs.Interleavings as interleavings
+use Rattle.runs.proofs.Alike.{interleave-nil-is}
 use Rattle.runs.proofs.Undo.{either-way, joined-way, unmarked-mark}
 use Rattle.process.specs.Leaves.{AsWritten}
 
@@ -169,12 +170,8 @@ reached-process (r-going r) = reached-process r
 reached-process (r-undoing r f t g i e) = i
 
 -- One entry more.
-pub interleave-append : (p q : Run) → Interleaving p q (p ++ q)
-interleave-append [] q = nil-interleave q
-interleave-append (e ∷ p) q = from-left (interleave-append p q)
-
 pub interleaved : {p q r : Run} → Merged parallel p q r → Interleaving p q r
-interleaved (in-turn {p = p} {q = q} e) = rw e at (interleave-append p q)
+interleaved (in-turn {p = p} {q = q} e) = rw e at (interleavings.in-turn p q)
 interleaved (mixed m) = m
 
 more-left : {p q r : Run} (e : Entry) → Interleaving p q r → Interleaving (p ++ (e ∷ [])) q (r ++ (e ∷ []))

@@ -1,3 +1,2 @@
 pub mod PlanSets
 pub mod Fill
-pub mod Derivation

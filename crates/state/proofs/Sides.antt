@@ -4,7 +4,7 @@ use mathlib.Core.Path.{_≡_}
 use mathlib.Core.Bool.{true, false}
 use mathlib.Core.List.{List}
 use mathlib.Core.Logic.{_⊎_, inl, inr}
-use Prim.Native.Nat.{ℕ, _-_, _<_}
+use Prim.Native.Nat.{ℕ, _-_, _≤_, _<_}
 use native.Mathlib.Omega.{arith}
 use lib.Dec.{eqb, ltb}
 use borrow.Author.Tests.{eqb-true, eqb-false, ltb-true, ltb-false}
@@ -12,9 +12,9 @@ use Rattle.blocks.proofs.Bounded.{decide}
 use Rattle.nodes.specs.Nodes.{count, form, left, right, Side, Names, Under}
 use Rattle.nodes.proofs.Under.{first, all-under-last}
 use Rattle.plan.proofs.Tree.{parts-smaller}
-use Rattle.plan.specs.PlanFile.{Runnable}
+use Rattle.plan.specs.PlanFile.{RunnableWithin, Runnable}
 
-module _ (types b : List ℕ) (r : Runnable types b) (i : ℕ) (c : i < count b) where
+module _ {actionLimit : ℕ} (low : actionLimit ≤ 63) (types b : List ℕ) (r : RunnableWithin actionLimit types b) (i : ℕ) (c : i < count b) where
   sides-small : (left b i < 63) × (right b i < 63)
   sides-small = go (decide (eqb (form b i) 0)) (decide (ltb (form b i) 3))
     where

@@ -9,7 +9,7 @@ ghost use lib.ListN.{length};
 ghost use mathlib.Core.Bool.{cond};
 ghost use Rattle.runs.specs.TwoLevels.{leafTwo, nodeTwo};
 ghost use Rattle.plan.specs.PlanFile.{Runnable};
-ghost use Rattle.nodes.specs.Nodes.{count};
+ghost use Rattle.nodes.specs.Nodes.{count, FormRules};
 ghost use Rattle.state.specs.State.{outcomeOf, cellsAt, toldBy, leafType, typePermits, isNext, leafPermits, mayCome, stateAfter};
 
 // An entry of a run: the leaf's node number, then 1 (finished) or 2 (failed).
@@ -80,7 +80,7 @@ fn type_permits(kind: u8, outcome: u8) -> bool
 
 // The type of leaf n.
 pub fn leaf_type(types: &[u8], nodes: &[u8], n: usize) -> u8
-    requires { ⌜ Runnable (now types) (now nodes) × (n < count (now nodes)) ⌝ }
+    requires { ⌜ FormRules (length (now types)) (now nodes) × (n < count (now nodes)) ⌝ }
     ensures { λ r. ⌜ r ≡ leafType (now (types .entry)) (now (nodes .entry)) n ⌝ }
 {
     let x = nodes::node_at(nodes, n);

@@ -1,5 +1,5 @@
 -- The lines that the verdict on a starred plan comes to: where it is a violation, only one complete run leaves the set, so the record's bytes
--- are that run's, whichever run was looked for.
+-- are that run's.
 use mathlib.Core.Path.{_≡_, sym, ap, subst, _∙_}
 use mathlib.Core.Bool.{Bool, true, false, cond}
 use mathlib.Core.List.{List, [], _∷_, List·Memᴰ, List·Memᴰ·head, List·Memᴰ·tail, List·Memᴰ·eq-of-singleton}
@@ -16,7 +16,7 @@ use Rattle.plan.specs.declared.Layout.{Layout}
 use Rattle.plan.specs.declared.Reading.{Reading}
 use Rattle.plan.specs.declared.Reading.the-variants as reading
 use Rattle.job.specs.Demand2.{planProcess}
-use Rattle.shown.specs.Shows.{recordBytes}
+use Rattle.plainest.specs.Bytes.{recordBytes}
 use Rattle.judge.specs.Verdict.{recordSize}
 use Rattle.judge.specs.Shown.{shownRun, runSet}
 use Rattle.judge.specs.Judged.{Recorded, RecordAfter}
@@ -69,7 +69,7 @@ told-consistent p c k v old new e r = ap (λ (x : Judgement). verdictLines x (ta
 run-bytes : (s : List ℕ) (set : ℕ) (run : Run) (old new : List ℕ) → OnlyRun s set run → Recorded s set old new → take recordSize new ≡ recordBytes run
 run-bytes s set run old new only x =
     let shows = x .shows in
-    let is = only (x .layout) (x .accepted) (shownRun (x .bytes)) (shows .status) (shows .complete) (shows .leaves) in
+    let is = only (x .layout) (x .accepted) (shownRun (x .bytes)) (shows .plainest .status) (shows .plainest .complete) (shows .plainest .leaves) in
     ap (take recordSize) (x .is) ∙ take-at (x .bytes) (drop recordSize old) recordSize (shows .long) ∙ shows .padded ∙ ap recordBytes is
 
 pub told-violated : (p : TriedPlan) (set : ℕ) (run : Run) → p .verdict ≡ Violated set → OnlyRun (p .file) set run → verdictLines (Violated set) (recordBytes run) ≡ p .lines → Told p

@@ -28,8 +28,8 @@ pub record TriedPlan : Type 0 where
   pub verdict : Judgement
   pub lines : List ℕ
 
--- The row holds: a set is listed exactly where some complete run leaves it, by Figure 2, and the verdict is this one. Whatever run an answer
--- shows that the contract of `verdict` admits, it comes to these lines, and so does the text that the verdict program writes.
+-- The row holds: a set is listed exactly where some complete run leaves it, by Figure 2, and the verdict is this one. The answer that the contract
+-- of `verdict` admits comes to these lines, and so does the text that the verdict program writes.
 pub record Holds (p : TriedPlan) : Type 0 where
   pub layout : Layout
   pub accepted : readOf (p .file) ≡ Accepted layout

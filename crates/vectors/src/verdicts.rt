@@ -1,40 +1,78 @@
-// The group `verdicts`: the verdict on a file, as one number.
+// The group `verdicts`: the verdict on a file, as one number, and the run that it shows.
 // A vector's body is the number expected, four bytes, the lowest first; a byte that says which lent areas are a byte too short, 1 for the work area
-// and 2 for the record area; and then the bytes of the file.
+// and 2 for the record area; the 126 bytes expected in the record area, which is lent full of zeros; and then the bytes of the file.
 ghost use mathlib.Core.Path.{_≡_};
+ghost use mathlib.Core.List.{_++_};
 ghost use Prim.Native.Nat.{_-_, _/_, _%_, _≤_};
-ghost use lib.ListN.{length};
+ghost use lib.ListN.{length, take, drop};
 ghost use Rattle.judge.specs.Verdict.{verdictOf, codeOf};
-ghost use Rattle.vectors.specs.Verdicts.{codeWith, verdictsOutcome};
+ghost use Rattle.judge.specs.Record.{recordFor};
+ghost use Rattle.vectors.specs.Verdicts.{answeredWith, alike, answerHeld, verdictsOutcome};
 use crate::outcome::Outcome;
 use crate::outcome::held;
 use fields::number::four_at;
+
+// The number of a verdict, and the bytes of the record area after it.
+pub struct Answered {
+    pub code: u64,
+    pub shown: [u8; 126],
+}
 
 // The number of the verdict on a file, in areas of which `short` tells which lack a byte.
 fn code_in(short: u8, file: &[u8], work: &mut [u8], record: &mut [u8]) -> u64
     requires { ⌜ (1 ≤ length (now work)) × (1 ≤ length (now «record»)) ⌝ }
     ensures { λ r. ⌜ r ≡ codeOf (verdictOf (now (file .entry)) (length (now (work .entry)) - short % 2) (length (now («record» .entry)) - short / 2 % 2)) ⌝ }
+    ensures { λ r. ⌜ now («record» .exit) ≡ recordFor (now (file .entry)) (verdictOf (now (file .entry)) (length (now (work .entry)) - short % 2) (length (now («record» .entry)) - short / 2 % 2)) (take (length (now («record» .entry)) - short / 2 % 2) (now («record» .entry))) ++ drop (length (now («record» .entry)) - short / 2 % 2) (now («record» .entry)) ⌝ }
 {
     let w = work.len() - (short % 2) as usize;
     let r = record.len() - (short / 2 % 2) as usize;
     judge::code(judge::verdict(file, &mut work[..w], &mut record[..r])) as u64
 }
 
-// The number of the verdict on a file, in areas of the size due but for what `short` tells.
-fn code_with(short: u8, file: &[u8]) -> u64
-    ensures { λ r. ⌜ r ≡ codeWith short (now (file .entry)) ⌝ }
+// The verdict on a file, in areas of the size due but for what `short` tells.
+fn answered_with(short: u8, file: &[u8]) -> Answered
+    ensures { λ r. ⌜ r ≡ answeredWith short (now (file .entry)) ⌝ }
 {
     let mut work = [0u8; 65536];
-    let mut record = [0u8; 126];
-    code_in(short, file, &mut work, &mut record)
+    let mut shown = [0u8; 126];
+    let code = code_in(short, file, &mut work, &mut shown);
+    Answered { code, shown }
+}
+
+// How many of the bytes shown, from the first on, are those that the body expects.
+fn alike(shown: &[u8; 126], body: &[u8]) -> usize
+    requires { ⌜ 131 ≤ length (now body) ⌝ }
+    ensures { λ r. ⌜ (r ≡ alike 126 0 (now (shown .entry)) (now (body .entry))) × (r ≤ 126) ⌝ }
+{
+    let mut i = 0;
+    while i < 126 {
+        if shown[i] != body[5 + i] {
+            return i;
+        }
+        i += 1;
+    }
+    i
+}
+
+// An answer is held against the number and the bytes that are expected. What differs is told by the numbers or, where these agree, by how many bytes do.
+fn held_answer(expected: u64, a: Answered, body: &[u8]) -> Outcome
+    requires { ⌜ 131 ≤ length (now body) ⌝ }
+    ensures { λ r. ⌜ r ≡ answerHeld expected a (now (body .entry)) ⌝ }
+{
+    let found = a.code;
+    let shown = a.shown;
+    if expected != found {
+        return Outcome::Differs { expected, found };
+    }
+    held(126, alike(&shown, body) as u64)
 }
 
 pub fn compare(body: &[u8]) -> Outcome
     ensures { λ r. ⌜ r ≡ verdictsOutcome (now (body .entry)) ⌝ }
 {
-    if body.len() < 5 {
+    if body.len() < 131 {
         return Outcome::Damaged;
     }
-    let found = code_with(body[4], &body[5..]);
-    held(four_at(body, 0), found)
+    let found = answered_with(body[4], &body[131..]);
+    held_answer(four_at(body, 0), found, body)
 }

@@ -1,5 +1,5 @@
-// Judges a plan file on standard input: it writes `consistent`; or `violated` and the smallest set that breaks the plan's rule, and then a
-// complete run that leaves this set, a line for each entry, leaf and outcome; or `refused` and document 01's number for why.
+// Judges a plan file on standard input: it writes `consistent`; or `violated` and the smallest set that breaks the plan's rule, and then the
+// plainest complete run that leaves this set, a line for each entry, leaf and outcome; or `refused` and document 01's number for why.
 use libc::STDIN_FILENO;
 use libc::STDOUT_FILENO;
 

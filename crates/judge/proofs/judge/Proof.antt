@@ -3,7 +3,8 @@
 use mathlib.Core.Path.{refl}
 use Rattle.least.specs.declared.Least.the-variants.{Found, Nothing}
 use borrow.Author.Needs.{needs}
-use Rattle.judge.proofs.Judging.{leaving, judged-plan}
+use Rattle.judge.proofs.Plain.{left-small}
+use Rattle.judge.proofs.Judging.{found-left, judged-plan}
 use Rattle.judge.proofs.judge.Statement.{statement}
 use Rattle.judge.proofs.judge.Tie as tie
 
@@ -31,20 +32,19 @@ enum-told c = search needs
 enum-known-set : tie.Need-enum-known-set
 enum-known-set c = search needs
 
-run-leaving-requires : tie.Need-run-leaving-requires
-run-leaving-requires c κs =
-    let d = c .before .before .before in
+show-requires : tie.Need-show-requires
+show-requires c κs =
+    let d = c .before .before in
     let find = d .before .before in
     let finals = find .before in
     let load = finals .before in
     let fill = load .before .before .before .before in
     let s = fill .before .before .before .before .before .before .before .before .before in
     let a = s .args in
-    let table = fill .before .before .before .table .ensures in (
-      leaving (a .types .now) (a .pairs .now) (a .nodes .now) (a .rule .now) (a .work .now) _ (s .pre .0) (fill .fill .ensures) _ (load .load .ensures) _ (finals .finals .ensures)
-          _ _ (d .set .given .1) (find .find .ensures),
-      table,
-    )
+    let table = fill .before .before .before .table .ensures in
+    let left = found-left (a .types .now) (a .pairs .now) (a .nodes .now) (a .rule .now) (a .work .now) _ (s .pre .0) (fill .fill .ensures) _ (load .load .ensures) _ (finals .finals .ensures)
+    _ _ (d .set .given .1) (find .find .ensures) in
+    (s .pre .0, left-small (a .types .now) (a .nodes .now) (s .pre .0) _ left, table, left)
 
 same-length : tie.Need-same-length
 same-length c = search needs
@@ -65,15 +65,17 @@ same-length-2 c = search needs
 
 returns-2 : tie.Need-returns-2
 returns-2 c =
-    let d = c .before .before .before .before in
+    let d = c .before .before .before in
     let find = d .before .before in
     let finals = find .before in
     let load = finals .before in
     let fill = load .before .before .before .before in
     let s = fill .before .before .before .before .before .before .before .before .before in
     let a = s .args in
+    let left = found-left (a .types .now) (a .pairs .now) (a .nodes .now) (a .rule .now) (a .work .now) _ (s .pre .0) (fill .fill .ensures) _ (load .load .ensures) _ (finals .finals .ensures)
+    _ _ (d .set .given .1) (find .find .ensures) in
     judged-plan (a .types .now) (a .pairs .now) (a .nodes .now) (a .rule .now) (a .work .now) _ (s .pre .0) (fill .fill .ensures) _ (load .load .ensures) _ (finals .finals .ensures)
-    _ (Found _) _ (d .set .given .1) (find .find .ensures) (c .run-leaving .ensures)
+    _ (Found _) _ (d .set .given .1) (find .find .ensures) (record { left = left; shown = c .show .ensures })
 
 pub judge-spec : {M : Type 1} → statement M
 judge-spec =
@@ -87,7 +89,7 @@ judge-spec =
     find-requires
     enum-told
     enum-known-set
-    run-leaving-requires
+    show-requires
     same-length
     returns
     same-length-2

@@ -11,7 +11,7 @@ shared-slice-read-result : tie.Need-shared-slice-read-result
 shared-slice-read-result c =
     let s = c .before .before .before .before .before in
     let e = c .before .before .node-at .ensures in
-    rw e (s .pre .0 .nodes-hold .keep (s .args .n) (s .pre .1) .action (rw e at (c .before .if1 .taken)) .0)
+    rw e (s .pre .0 (s .args .n) (s .pre .1) .action (rw e at (c .before .if1 .taken)) .0)
 
 returns : tie.Need-returns
 returns c =

@@ -50,13 +50,13 @@ left-bound : (c : tie.After-node-at Inv-loop μ-loop) → c .node-at .result .le
 left-bound c =
     let l = c .before .before in
     let s = l .before .before .before .before in
-    rw (c .node-at .ensures) (left-small (s .args .types .now) (s .args .nodes .now) (s .pre) (l .loop .i) (omega arith))
+    rw (c .node-at .ensures) (left-small (omega arith) (s .args .types .now) (s .args .nodes .now) (s .pre) (l .loop .i) (omega arith))
 
 right-bound : (c : tie.After-node-at Inv-loop μ-loop) → c .node-at .result .right < 63
 right-bound c =
     let l = c .before .before in
     let s = l .before .before .before .before in
-    rw (c .node-at .ensures) (right-small (s .args .types .now) (s .args .nodes .now) (s .pre) (l .loop .i) (omega arith))
+    rw (c .node-at .ensures) (right-small (omega arith) (s .args .types .now) (s .args .nodes .now) (s .pre) (l .loop .i) (omega arith))
 
 mul-cell-of : tie.Need-mul-cell-of Inv-loop μ-loop
 mul-cell-of c = omega (arith, left-bound (c .before))

@@ -1,0 +1,15 @@
+pub mod Least
+pub mod Examples
+pub mod Sides
+pub mod LeafCosts
+pub mod NodeCosts
+pub mod ByCodes
+pub mod Sets
+pub mod Once
+pub mod Outcomes
+pub mod Pins
+pub mod Searching
+pub mod Below
+pub mod Folded
+pub mod Stages
+pub mod Choosing

@@ -1,0 +1,10 @@
+pub mod Order
+pub mod Examples
+pub mod Greedy
+pub mod Only
+pub mod Tables
+pub mod Left
+pub mod Asked
+pub mod Steps
+pub mod Shown
+pub mod Written

@@ -1,0 +1,4 @@
+pub mod Bytes
+pub mod Plainest
+pub mod Greedy
+pub mod Shown
