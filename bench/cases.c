@@ -44,11 +44,18 @@
 /* Ten actions side by side, each of which may do either and has "skip" as its handler: 39 nodes, each of the 1,024 sets under code 1. */
 #define EITHER_TEN "0s> 1s>| 2s>| 3s>| 4s>| 5s>| 6s>| 7s>| 8s>| 9s>|"
 
-/* Ten actions and "throw" side by side have every set under 4 and 5, since each action may finish or fail. The handler "throw or skip"
-   brings these under 1 and 2 also, and beside it "skip, undone by throw or skip" adds 3 and 6. So each of the six families is full, 1,024
-   sets, with 16 leaves. Two of these side by side are 63 nodes, and the last node joins two full summaries to a full one. */
-#define FULL_HALF "01|2|3|4|5|6|7|8|9|t| ts+ > s ts+ / |"
+/* Ten actions and "throw" side by side have every set under 9 and 10, since each action may finish or fail. The handler "throw or skip"
+   brings these under 1, 2 and 3 also. So each of these five families is full, 1,024 sets, with 13 leaves. */
+#define FULL_FIVE "01|2|3|4|5|6|7|8|9|t| ts+ >"
+
+/* Beside it "skip, undone by throw or skip" adds 6 and 13: seven families, as many as there are where no undo has an undo, with 16 leaves. Two of these side by side are 63
+   nodes, and the last node joins two full summaries to a full one. */
+#define FULL_HALF FULL_FIVE " s ts+ / |"
 #define FULL FULL_HALF FULL_HALF "|"
+
+/* The undo "(skip, undone by throw or skip) beside throw or skip" has the empty set under 1, 2, 6, 9 and 13, and what it undoes so under 2, 3, 4, 6 and 7. So five full
+   families beside that are all eleven, with 19 leaves. With five more beside these it is 63 nodes, and the last node has all eleven full. */
+#define FULL_NESTED FULL_FIVE " s  s ts+ / ts+ |  / | " FULL_FIVE "|"
 
 /* Which the set of all ten actions alone breaks. */
 #define NOT_ALL_TEN "01&2&3&4&5&6&7&8&9& !"
@@ -97,6 +104,10 @@ const struct named_case CASES[] = {
     {"full families", "3333333333", "", FULL, YES(0)},
     {"full, long rule", "3333333333", "", FULL, YES_127},
     {"full, late set", "3333333333", "", FULL, NOT_ALL_TEN},
+
+    /* An undo of an undo: full families, and the office's withdrawal that half succeeds (plans/restored.plan). */
+    {"nested, full families", "3333333333", "", FULL_NESTED, YES(0)},
+    {"nested, restored", "3331131", "46", "0 1 46/5; / ; 2; 3;", "34| 1!|"},
 
     /* The search for the run: 244,337 folds, and 513,552. */
     {"hard run", HARD_TYPES, "", HARD, NOT_ALL_TEN},

@@ -8,7 +8,7 @@
 enum { NO_RUN = 64 };
 
 struct costs {
-    uint8_t under[7];
+    uint8_t under[15];
 };
 
 /* What is asked of a leaf. */

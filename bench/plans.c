@@ -97,11 +97,10 @@ static unsigned random_leaf(uint64_t *state, struct plan *p)
     return k < 2 ? add_node(p, SKIP + k, 0, 0) : add_action(p, below(state, p->actions));
 }
 
-/* Leaves come in one by one, and at any time two of the processes made so far are joined to one. */
-static void random_nodes(uint64_t *state, struct plan *p, unsigned leaves)
+/* Leaves come in one by one, and at any time two of the processes made so far are joined to one. Compensations are nested up to so deep. */
+static void random_nodes(uint64_t *state, struct plan *p, unsigned leaves, unsigned most)
 {
-    unsigned open[32], n = 0;
-    uint64_t holding = 0; /* the nodes with a compensation at or below them */
+    unsigned open[32], n = 0, levels[MOST_NODES] = {0};
     unsigned eager = 1 + below(state, 4), parallel = below(state, 3) == 0;
     while (leaves || n > 1) {
         if (n < 2 || (leaves && below(state, 5) >= eager)) {
@@ -113,14 +112,32 @@ static void random_nodes(uint64_t *state, struct plan *p, unsigned leaves)
         open[i] = open[--n];
         unsigned j = below(state, n), r = open[j];
         unsigned form = parallel && below(state, 2) ? PARALLEL : SEQUENCE + below(state, 5);
-        if (form == COMPENSATION && holding >> r & 1)
+        if (form == COMPENSATION && levels[r] == most)
             form = HANDLER;
         if (form == PARALLEL && !PLAN_PARALLELS)
             form = SEQUENCE;
+        unsigned right = levels[r] + (form == COMPENSATION);
         open[j] = add_node(p, form, l, r);
-        if (form == COMPENSATION || (holding >> l | holding >> r) & 1)
-            holding |= 1ull << open[j];
+        levels[open[j]] = levels[l] < right ? right : levels[l];
     }
+}
+
+/* From the top down, with compensations nested up to so deep, most of which have the larger side as their undo. Where the process is to fail, that mostly comes last, so
+   that much is undone; and many undos are to fail. */
+static unsigned undone_nodes(uint64_t *state, struct plan *p, unsigned leaves, unsigned most, int fails)
+{
+    static const uint8_t forms[] = {SEQUENCE, SEQUENCE, PARALLEL, CHOICE, HANDLER, COMPENSATION, COMPENSATION, COMPENSATION, COMPENSATION, COMPENSATION};
+    if (leaves == 1)
+        return fails ? add_node(p, THROW, 0, 0) : random_leaf(state, p);
+    unsigned form = fails && below(state, 4) ? SEQUENCE : forms[below(state, most ? 10 : 5)], left = 1 + below(state, leaves - 1), l, r;
+    int first = form == HANDLER && below(state, 2), second = form == COMPENSATION ? below(state, 3) > 0 : fails;
+    if (form == SEQUENCE && fails)
+        left = leaves - 1;
+    if (form == COMPENSATION)
+        left = 1 + below(state, left);
+    l = undone_nodes(state, p, left, most, first);
+    r = undone_nodes(state, p, leaves - left, most - (form == COMPENSATION), second);
+    return add_node(p, form == PARALLEL && !PLAN_PARALLELS ? SEQUENCE : form, l, r);
 }
 
 /* Of up to `values` values. A third of them end in "or a or not a", so that plans are consistent often enough. */
@@ -157,7 +174,11 @@ void random_plan(uint64_t *state, struct plan_file *out)
     }
     if (below(state, 2))
         random_pairs(state, &p);
-    random_nodes(state, &p, below(state, 8) ? 1 + below(state, 32) : 32);
+    unsigned leaves = below(state, 8) ? 1 + below(state, 32) : 32, most = 1 + below(state, PLAN_LEVELS);
+    if (below(state, 3))
+        random_nodes(state, &p, leaves, most);
+    else
+        undone_nodes(state, &p, leaves, most, below(state, 5) > 0);
     random_rule(state, &p, below(state, 8) ? 1 + below(state, 12) : 1 + below(state, 64));
     write_plan(&p, out);
 }
@@ -173,15 +194,14 @@ static unsigned random_set(uint64_t *state, const word *sets)
 
 void aim(uint64_t *state, struct plan_file *f)
 {
-    static word area[SUMMARY_WORDS * MOST_NODES];
+    static word area[SUMMARY_WORDS * MOST_SUMMARIES];
     static const uint8_t not_and[2] = {NOT, AND};
     word sets[WORDS];
     struct layout from;
     struct plan p = {0};
     if (read_plan(f->bytes, f->len, &from))
         return;
-    summarise(&from, area);
-    final_sets(area, from.node_count - 1, sets);
+    summarise(&from, area, sets);
     unsigned set = random_set(state, sets);
     p.actions = from.actions, p.node_count = from.node_count;
     memcpy(p.types, from.types, from.actions);
@@ -235,9 +255,16 @@ static int pairs_alike(const struct plan_file *f)
     return 1;
 }
 
+int is_nested(const struct plan_file *f)
+{
+    struct layout p;
+    read_plan(f->bytes, f->len, &p);
+    return p.levels == MOST_LEVELS;
+}
+
 int is_asked(const struct plan_file *f)
 {
-    return (PLAN_UNDOS > 1 || pairs_alike(f)) && (PLAN_PARALLELS || !has_parallel(f));
+    return (PLAN_UNDOS > 1 || pairs_alike(f)) && (PLAN_PARALLELS || !has_parallel(f)) && (PLAN_LEVELS > 1 || !is_nested(f));
 }
 
 /* A byte of the body of block k; a byte anywhere where it has none. */

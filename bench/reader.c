@@ -50,8 +50,17 @@ static unsigned times_named(const struct layout *p, unsigned j)
     return times;
 }
 
-/* Forms first (6), then naming (7), then compensations in undo sides (8). */
-static unsigned nodes_fault(const struct layout *p)
+/* The levels of undos at a node, from those at the nodes before it. */
+static unsigned levels_of(const uint8_t *n, const uint8_t *levels)
+{
+    if (n[0] < SEQUENCE)
+        return 0;
+    unsigned left = levels[n[1]], right = levels[n[2]] + (n[0] == COMPENSATION);
+    return left < right ? right : left;
+}
+
+/* Forms first (6), then naming (7), then levels of undos (8). */
+static unsigned nodes_fault(struct layout *p)
 {
     for (unsigned i = 0; i < p->node_count; i++)
         if (!node_ok(p->nodes + 3 * i, i, p->actions))
@@ -59,14 +68,11 @@ static unsigned nodes_fault(const struct layout *p)
     for (unsigned j = 0; j + 1 < p->node_count; j++)
         if (times_named(p, j) != 1)
             return 7;
-    uint8_t holding[MOST_NODES]; /* whether a compensation stands at a node or below it */
-    for (unsigned i = 0; i < p->node_count; i++) {
-        const uint8_t *n = p->nodes + 3 * i;
-        if (n[0] == COMPENSATION && holding[n[2]])
-            return 8;
-        holding[i] = n[0] >= SEQUENCE && (n[0] == COMPENSATION || holding[n[1]] || holding[n[2]]);
-    }
-    return 0;
+    uint8_t levels[MOST_NODES];
+    for (unsigned i = 0; i < p->node_count; i++)
+        levels[i] = levels_of(p->nodes + 3 * i, levels);
+    p->levels = levels[p->node_count - 1];
+    return p->levels > MOST_LEVELS ? 8 : 0;
 }
 
 static unsigned rule_fault(const struct layout *p)
@@ -117,6 +123,7 @@ static unsigned body_fault(struct layout *p, unsigned kind, const uint8_t *body,
 unsigned read_plan(const uint8_t *file, size_t len, struct layout *out)
 {
     size_t left = len;
+    out->levels = 0;
     for (unsigned kind = 1; kind <= 4; kind++) {
         if (left < 4)
             return 1;

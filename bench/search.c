@@ -2,6 +2,11 @@
    leaf of an action is tried as one that has to finish, first of that action of which the fewest leaves are left by which the fold comes below the best. */
 #include "search.h"
 
+static unsigned lesser(unsigned a, unsigned b)
+{
+    return a < b ? a : b;
+}
+
 /* Of the complete runs that keep to the table and finish no action outside the set. */
 static unsigned fold(const struct layout *p, unsigned set, const struct table *t)
 {
@@ -16,8 +21,7 @@ static unsigned fold(const struct layout *p, unsigned set, const struct table *t
             costs[i] = composite_costs(n[0], costs[n[1]], costs[n[2]]);
     }
     const uint8_t *top = costs[p->node_count - 1].under;
-    unsigned ended = top[5] < top[6] ? top[5] : top[6];
-    return top[1] < ended ? top[1] : ended;
+    return lesser(lesser(top[1], top[9]), lesser(top[13], top[14]));
 }
 
 static int is_leaf_of(const struct layout *p, unsigned n, unsigned action)
@@ -104,10 +108,8 @@ static unsigned search(const struct layout *p, unsigned set, const struct table 
     if (other && best <= fold(p, set, t))
         return best;
     struct choice c = choose(p, set, t, best);
-    if (c.action == p->actions) {
-        unsigned found = fold(p, set, t);
-        return found < best ? found : best;
-    }
+    if (c.action == p->actions)
+        return lesser(fold(p, set, t), best);
     if (c.leaves == 0)
         return best;
     int several = candidates(p, t, c.action) > 1;

@@ -1,112 +1,140 @@
-/* The fold over the nodes: a leaf's summary from its type, a composite's by the outcome chart. */
+/* The fold over the nodes: a leaf's summary from its type, where it is needed, a composite's by the outcome chart. */
 #include "summary.h"
 
 #include <string.h>
 
-/* Document 01's 245 codes, those of a parallel as document 02 has them: forms 3 to 7, left code 0 to 6, right code 0 to 6, the right changing fastest. */
-const uint8_t CHART[5 * CODES * CODES] = {
+const uint64_t CHART[5 * CODES] = {
     /* sequence */
-    0, 7, 7, 7, 7, 7, 7,
-    7, 1, 7, 3, 4, 7, 6,
-    7, 7, 2, 7, 7, 5, 7,
-    7, 7, 3, 7, 7, 6, 7,
-    4, 7, 7, 7, 7, 7, 7,
-    5, 7, 7, 7, 7, 7, 7,
-    6, 7, 7, 7, 7, 7, 7,
+    0x1, 0xfe0000087000020, 0xa000000300, 0xcb0000054000, 0xc000000500,
+    0x0, 0xfe0000087000, 0xf000000800, 0x0, 0xa,
+    0xb, 0xc, 0x0, 0xe, 0xf,
     /* parallel */
-    0, 7, 7, 7, 7, 7, 7,
-    7, 1, 7, 7, 4, 7, 7,
-    7, 7, 2, 3, 7, 5, 6,
-    7, 7, 3, 3, 7, 6, 6,
-    7, 4, 7, 7, 4, 7, 7,
-    7, 7, 5, 6, 7, 5, 6,
-    7, 7, 6, 6, 7, 6, 6,
+    0x1, 0x20, 0xa000000300, 0xfe0cb0087054000, 0xff0cc0088055000,
+    0x0, 0xfe0fe0087087000, 0xff0ff0088088000, 0x0, 0xa000000a00,
+    0xfe0cb00fe0cb000, 0xff0cc00ff0cc000, 0x0, 0xfe0fe00fe0fe000, 0xff0ff00ff0ff000,
     /* choice */
-    0, 1, 2, 3, 4, 5, 6,
-    1, 7, 7, 7, 7, 7, 7,
-    2, 7, 7, 7, 7, 7, 7,
-    3, 7, 7, 7, 7, 7, 7,
-    4, 7, 7, 7, 7, 7, 7,
-    5, 7, 7, 7, 7, 7, 7,
-    6, 7, 7, 7, 7, 7, 7,
+    0xfe0cba087054321, 0x2, 0x3, 0x4, 0x5,
+    0x0, 0x7, 0x8, 0x0, 0xa,
+    0xb, 0xc, 0x0, 0xe, 0xf,
     /* compensation */
-    0, 7, 7, 7, 7, 7, 7,
-    1, 2, 7, 7, 7, 3, 7,
-    7, 7, 7, 7, 7, 7, 7,
-    7, 7, 7, 7, 7, 7, 7,
-    4, 7, 7, 7, 7, 7, 7,
-    5, 7, 7, 7, 7, 7, 7,
-    6, 7, 7, 7, 7, 7, 7,
+    0x1, 0x80007005000432, 0x0, 0x0, 0x0,
+    0x0, 0x0, 0x0, 0x0, 0xa,
+    0xb, 0xc, 0x0, 0xe, 0xf,
     /* handler */
-    0, 7, 7, 7, 7, 7, 7,
-    1, 7, 7, 7, 7, 7, 7,
-    2, 7, 7, 7, 7, 7, 7,
-    3, 7, 7, 7, 7, 7, 7,
-    7, 7, 7, 7, 7, 7, 7,
-    7, 1, 2, 3, 4, 5, 6,
-    7, 1, 2, 3, 4, 5, 6,
+    0x1, 0x2, 0x3, 0x4, 0x5,
+    0x0, 0x7, 0x8, 0x0, 0xfe0cba087054320,
+    0x0, 0x0, 0x0, 0xfe0cba087054320, 0xfe0cba087054320,
 };
 
 const uint64_t NOT_RUN[WORDS] = {1};
 
-/* A leaf that may finish has its set under 1 and 2, one that may fail the empty set under 4 and 5. */
-static void leaf(word *out, unsigned set, int finishes, int fails)
+const uint8_t CODE_AT[FAMILIES] = {1, 2, 3, 4, 6, 7, 9, 10, 11, 13, 14};
+const uint8_t PLACE_OF[CODES] = {0, 1, 2, 3, 4, 0, 5, 6, 0, 7, 8, 9, 0, 10, 11};
+
+static word *family_in(word *summary, unsigned code)
 {
+    return summary + WORDS * (PLACE_OF[code] - 1);
+}
+
+/* A leaf that may finish has its set under 1, 2 and 3, one that may fail the empty set under 9 and 10. */
+static void leaf(const struct layout *p, const uint8_t *n, word *out)
+{
+    unsigned type = n[0] == ACTION ? p->types[n[1]] : n[0], set = n[0] == ACTION ? 1u << n[1] : 0;
     memset(out, 0, SUMMARY_WORDS * sizeof *out);
-    if (finishes) {
-        family_insert(out, set);
-        family_insert(out + WORDS, set);
-    }
-    if (fails) {
-        family_insert(out + 3 * WORDS, 0);
-        family_insert(out + 4 * WORDS, 0);
-    }
+    if (type != 2)
+        for (unsigned code = 1; code <= 3; code++)
+            family_insert(family_in(out, code), set);
+    if (type != 1)
+        for (unsigned code = 9; code <= 10; code++)
+            family_insert(family_in(out, code), 0);
+}
+
+/* A side of a node: its summary, and the codes under which that has sets, bit c for code c. */
+struct side {
+    const word *summary;
+    unsigned live;
+};
+
+static unsigned live_codes(const word *summary)
+{
+    unsigned live = 1;
+    for (unsigned k = 0; k < FAMILIES; k++)
+        live |= (unsigned)!family_is_empty(summary + WORDS * k) << CODE_AT[k];
+    return live;
+}
+
+/* Marks the left code under each digit of its row that stands at one of these right codes. */
+static void mark(unsigned marks[16], uint64_t row, unsigned live, unsigned left)
+{
+    for (; row; row >>= 4, live >>= 1)
+        if (live & 1)
+            marks[row & 15] |= 1u << left;
 }
 
 /* The sets of the right side under the right codes that give this code beside a left code. */
-static void gather(word *out, unsigned form, unsigned left, unsigned code, const word *area, unsigned r)
+static void gather(word *out, uint64_t row, unsigned code, const word *right)
 {
     memset(out, 0, WORDS * sizeof *out);
-    for (unsigned right = 0; right < CODES; right++)
-        if (cell(form, left, right) == code)
-            family_join(out, family_of(area, r, right));
+    for (unsigned r = 0; r < CODES; r++)
+        if ((row >> 4 * r & 15) == code + 1)
+            family_join(out, family_of(right, r));
 }
 
-/* The sets of a node under a code. */
-static void under(word *out, unsigned form, unsigned code, const word *area, unsigned l, unsigned r)
+/* The sets of a node under a code, by the left codes that have a part in it. */
+static void under(word *out, unsigned form, unsigned code, unsigned lefts, const word *left, const word *right)
 {
     memset(out, 0, WORDS * sizeof *out);
-    for (unsigned left = 0; left < CODES; left++) {
-        const word *x = family_of(area, l, left);
+    if (!lefts)
+        return;
+    for (unsigned l = 0; l < CODES; l++) {
         word y[WORDS], unions[WORDS];
-        if (family_is_empty(x))
+        if (!(lefts >> l & 1))
             continue;
-        gather(y, form, left, code, area, r);
-        if (family_is_empty(y))
-            continue;
-        family_product(unions, x, y);
+        gather(y, row_of(form, l), code, right);
+        family_product(unions, family_of(left, l), y);
         family_join(out, unions);
     }
 }
 
-void summarise(const struct layout *p, word *area)
+static void composite(word *out, unsigned form, struct side left, struct side right)
 {
-    for (unsigned i = 0; i < p->node_count; i++) {
-        const uint8_t *n = p->nodes + 3 * i;
-        word *out = area + SUMMARY_WORDS * i;
-        if (n[0] < SEQUENCE) {
-            unsigned type = n[0] == ACTION ? p->types[n[1]] : n[0];
-            leaf(out, n[0] == ACTION ? 1u << n[1] : 0, type != 2, type != 1);
-        } else {
-            for (unsigned code = 1; code < CODES; code++)
-                under(out + WORDS * (code - 1), n[0], code, area, n[1], n[2]);
-        }
-    }
+    unsigned marks[16] = {0};
+    for (unsigned l = 0; l < CODES; l++)
+        if (left.live >> l & 1)
+            mark(marks, row_of(form, l), right.live, l);
+    for (unsigned k = 0; k < FAMILIES; k++)
+        under(out + WORDS * k, form, CODE_AT[k], marks[CODE_AT[k] + 1], left.summary, right.summary);
 }
 
-void final_sets(const word *area, unsigned root, word out[WORDS])
+/* A composite's is in the area; a leaf's is made. */
+static const word *summary_of(const struct layout *p, unsigned i, const word *area, const uint8_t *place, word *made)
 {
-    const word *f1 = family_of(area, root, 1), *f5 = family_of(area, root, 5), *f6 = family_of(area, root, 6);
+    const uint8_t *n = p->nodes + 3 * i;
+    if (n[0] >= SEQUENCE)
+        return area + SUMMARY_WORDS * place[i];
+    leaf(p, n, made);
+    return made;
+}
+
+static struct side side_of(const struct layout *p, unsigned i, const word *area, const uint8_t *place, word *made)
+{
+    const word *summary = summary_of(p, i, area, place, made);
+    return (struct side){summary, live_codes(summary)};
+}
+
+void summarise(const struct layout *p, word *area, word sets[WORDS])
+{
+    uint8_t place[MOST_NODES]; /* the composites before a node */
+    unsigned composites = 0;
+    word left[SUMMARY_WORDS], right[SUMMARY_WORDS];
+    for (unsigned i = 0; i < p->node_count; i++) {
+        const uint8_t *n = p->nodes + 3 * i;
+        place[i] = composites;
+        if (n[0] < SEQUENCE)
+            continue;
+        composite(area + SUMMARY_WORDS * composites++, n[0], side_of(p, n[1], area, place, left), side_of(p, n[2], area, place, right));
+    }
+    const word *top = summary_of(p, p->node_count - 1, area, place, left);
     for (unsigned i = 0; i < WORDS; i++)
-        out[i] = f1[i] | f5[i] | f6[i];
+        sets[i] = family_of(top, 1)[i] | family_of(top, 9)[i] | family_of(top, 13)[i] | family_of(top, 14)[i];
 }

@@ -1,4 +1,4 @@
-/* The fold over the nodes: a node's cells, one for its forward run and one for its undo, from those of its sides. */
+/* The fold over the nodes: a node's cells, one for its forward run, one for its undo and one for that one's undo, from those of its sides. */
 #include "told.h"
 
 enum ended { OPEN, SUCCEEDED, FAILED };
@@ -11,7 +11,7 @@ struct cell {
 };
 
 struct cells {
-    struct cell forward, undo;
+    struct cell forward, undo, again;
 };
 
 struct told {
@@ -80,40 +80,43 @@ static struct cell join_cell(unsigned form, struct cell x, struct cell y)
     return node_cell(form, x, y, x.next, 0);
 }
 
-/* Of the whole process, run with its undo. */
-static struct told tell(struct cells a)
+/* A process with its undo, from what is told of that. */
+static struct told with_undo(struct cell a, int undo_begun, struct told undo)
 {
-    uint64_t first = a.undo.begun ? 0 : a.forward.next, then = a.forward.ended == FAILED ? a.undo.next : 0;
-    return (struct told){a.forward.ended == FAILED && a.undo.ended == OPEN ? OPEN : a.forward.ended, first | then};
+    uint64_t first = undo_begun ? 0 : a.next, then = a.ended == FAILED ? undo.next : 0;
+    return (struct told){a.ended == FAILED && undo.ended == OPEN ? OPEN : a.ended, first | then};
 }
 
-static struct cell node_undo(unsigned form, const struct cells *a, const struct cells *b)
+/* Of the whole process, run with its undo, and that with its own. */
+static struct told tell(const struct cells *a)
 {
-    int succeeded = a->forward.ended == SUCCEEDED;
-    switch (form) {
-    case PARALLEL:
-        return join_cell(PARALLEL, a->undo, b->undo);
-    case COMPENSATION:
-        return succeeded ? b->forward : a->undo;
-    case HANDLER:
-        return succeeded ? a->undo : b->undo;
-    default: /* a sequence, or a choice of which one side did not run: undone from right to left */
-        return join_cell(SEQUENCE, b->undo, a->undo);
-    }
+    struct told undo = with_undo(a->undo, a->again.begun, (struct told){a->again.ended, a->again.next});
+    return with_undo(a->forward, a->undo.begun, undo);
 }
 
 static struct cells node_cells(unsigned form, const struct cells *a, const struct cells *b)
 {
-    struct told left = tell(*a);
+    struct told left = tell(a);
+    int succeeded = a->forward.ended == SUCCEEDED;
     uint64_t next = form == HANDLER ? left.next : a->forward.next;
-    return (struct cells){node_cell(form, a->forward, b->forward, next, left.ended == FAILED), node_undo(form, a, b)};
+    struct cell forward = node_cell(form, a->forward, b->forward, next, left.ended == FAILED);
+    switch (form) {
+    case PARALLEL:
+        return (struct cells){forward, join_cell(PARALLEL, a->undo, b->undo), join_cell(PARALLEL, a->again, b->again)};
+    case COMPENSATION:
+        return (struct cells){forward, succeeded ? b->forward : a->undo, succeeded ? b->undo : a->again};
+    case HANDLER:
+        return (struct cells){forward, succeeded ? a->undo : b->undo, succeeded ? a->again : b->again};
+    default: /* a sequence, or a choice of which one side did not run: undone from right to left, and that from left to right */
+        return (struct cells){forward, join_cell(SEQUENCE, b->undo, a->undo), join_cell(SEQUENCE, a->again, b->again)};
+    }
 }
 
 static struct cells leaf_cells(unsigned n, unsigned outcome)
 {
     if (outcome == FREE)
-        return (struct cells){{0, 0, OPEN, 1ull << n}, NOTHING};
-    return (struct cells){{0, 1, outcome == HAS_FINISHED ? SUCCEEDED : FAILED, 0}, NOTHING};
+        return (struct cells){{0, 0, OPEN, 1ull << n}, NOTHING, NOTHING};
+    return (struct cells){{0, 1, outcome == HAS_FINISHED ? SUCCEEDED : FAILED, 0}, NOTHING, NOTHING};
 }
 
 uint64_t told_next(const struct layout *p, const struct table *t)
@@ -123,5 +126,5 @@ uint64_t told_next(const struct layout *p, const struct table *t)
         const uint8_t *n = p->nodes + 3 * i;
         cells[i] = n[0] < SEQUENCE ? leaf_cells(i, t->at[i]) : node_cells(n[0], &cells[n[1]], &cells[n[2]]);
     }
-    return tell(cells[p->node_count - 1]).next;
+    return tell(&cells[p->node_count - 1]).next;
 }

@@ -82,8 +82,7 @@ uint32_t plain_verdict(const uint8_t *file, size_t file_len, uint8_t *work, size
     if (fault)
         return REFUSED + fault;
 
-    summarise(&plan, area);
-    final_sets(area, plan.node_count - 1, sets);
+    summarise(&plan, area, sets);
     unsigned set = least_violating(&plan, sets);
     if (set < SETS)
         show_run(&plan, set, record);

@@ -2,8 +2,9 @@
 """Runs the built program target/bin/inspect on random and damaged files and compares it with the model: tests/fuzz_inspect.py MODEL COUNT SEED [one]
 
 MODEL is the folder of the model (plans.py says which). The program must have been built, by `rt check inspect`. One process is run for each
-file, two at a time. The script ends with status 1 at the first file on which the two differ, and prints it. With `one` the files are those that read
-the same where an action has one undo at most and there are nine pairs at most, and that are no plans with a parallel.
+file, two at a time. Compensations are nested one, two and three deep, of which three is too deep. The script ends with status 1 at the first file on which
+the two differ, and prints it. With `one` the files are those that read the same where an action has one undo at most, there are nine pairs at most and no
+compensations are nested, and that are no plans with a parallel.
 """
 import os
 import random
@@ -11,7 +12,7 @@ import subprocess
 import sys
 from concurrent.futures import ThreadPoolExecutor
 
-from plans import asked, damaged, made, number_of, random_blocks, random_plan
+from plans import asked, damaged, made, number_of, random_blocks, random_depth, random_plan
 
 
 def random_file(model, rng, undos):
@@ -19,7 +20,7 @@ def random_file(model, rng, undos):
     what = rng.randrange(20)
     if what == 0:
         return bytes(rng.choice([0, 1, 2, 3, 4, rng.randrange(256)]) for _ in range(rng.randrange(0, 80)))
-    file = random_blocks(model, rng, undos) if what < 10 else random_plan(model, rng, undos=undos)
+    file = random_blocks(model, rng, undos) if what < 10 else random_plan(model, rng, undos=undos, depth=random_depth(rng, undos, 3))
     for _ in range(rng.choice([0, 0, 0, 1] if what < 10 else [0, 1, 1, 2, 3])):
         file = damaged(rng, file)
     # some as long as a pipe does not give in one piece, and past what the program reads

@@ -5,8 +5,8 @@ MODEL is the folder of the model (plans.py says which). The program must have be
 Every other session goes line by line, each line sent once the answer to the one before it is there; the others come in pieces that end anywhere.
 About half of all sessions are brought to an end after their lines, in at most as many entries as the plan has leaves that the record does not name.
 The script ends with status 1 at the first session in which the two differ, or in which the model comes to no end, or tells an end and a leaf that
-comes next, or neither; and prints it. With `one` the plans are those that read the same where an action has one undo at most and there are nine pairs
-at most, and that have no parallel.
+comes next, or neither; and prints it. With `one` the plans are those that read the same where an action has one undo at most, there are nine pairs at
+most and no compensations are nested, and that have no parallel.
 """
 import os
 import random
@@ -16,7 +16,7 @@ import sys
 import tempfile
 import time
 
-from plans import asked, damaged, made, number_of, random_plan
+from plans import asked, damaged, made, number_of, random_depth, random_plan
 from sessions import Model, leaves_of, permitted, random_entry, said_to, told_lines
 
 # seconds that the program may take for an answer
@@ -77,9 +77,10 @@ class Program:
 
 
 def random_file(cells, rng, undos):
-    """a plan, one of twenty damaged"""
-    file = random_plan(cells, rng, rng.choice([1, 2, 3, 4, 5, 6, 8, 13, 21, 32, 32]), undos)
-    return damaged(rng, file) if rng.randrange(20) == 0 else file
+    """a plan, its compensations nested up to two deep; one of twenty damaged, or nested up to three deep"""
+    what, leaves = rng.randrange(40), rng.choice([1, 2, 3, 4, 5, 6, 8, 13, 21, 32, 32])
+    file = random_plan(cells, rng, leaves, undos, random_depth(rng, undos, 3 if what == 0 else 2))
+    return damaged(rng, file) if what == 1 else file
 
 
 def session(path, cells, rng, plan, undos):

@@ -4,8 +4,8 @@
 MODEL is the folder of the model (plans.py says which). The programs must have been built, by `rt check verdict run`. All that `verdict` writes is what the
 model has, the run that is shown included: that of a small plan is found among all of its runs, that of a large one by the model's search (shown.py). Then the
 run is offered line by line to the program `run`, which must take every entry and say that the run may end. The script ends with status 1 at the first
-plan in which something differs, and prints it. With `one` the plans are those that read the same where an action has one undo at most and there are nine
-pairs at most, and that have no parallel.
+plan in which something differs, and prints it. With `one` the plans are those that read the same where an action has one undo at most, there are nine
+pairs at most and no compensations are nested, and that have no parallel.
 """
 import collections
 import os
@@ -15,20 +15,20 @@ import sys
 import tempfile
 from concurrent.futures import ThreadPoolExecutor
 
-from plans import asked, crowded_plan, damaged, made, random_plan
-from shown import is_small
+from plans import asked, crowded_plan, damaged, is_small, made, number_of, random_depth, random_plan
 from stored import verdict_lines
 from verdicts import not_just, with_rule
 
 
 def random_file(cells, rng, undos):
     """a plan, two of three of them with few actions at many leaves, as it is, or with a rule that one of its own sets breaks and no other, one of the larger, so that long runs
-    are shown; some damaged"""
-    file = crowded_plan(cells, rng, undos) if rng.randrange(3) else random_plan(cells, rng, undos=undos)
-    what = rng.randrange(8)
+    are shown; some damaged. Compensations are nested up to two deep, in some files up to three deep"""
+    what = rng.randrange(16)
+    depth = random_depth(rng, undos, 3 if what < 2 else 2)
+    file = crowded_plan(cells, rng, undos, depth) if rng.randrange(3) else random_plan(cells, rng, undos=undos, depth=depth)
     if what == 0:
         return damaged(rng, file)
-    if what < 4:
+    if what < 8 or number_of(cells, file):
         return file
     types, _, nodes, _ = cells.parse(bytes(file))
     sets = sorted(cells.plan_sets(cells.tree_of(nodes, types)))

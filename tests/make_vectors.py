@@ -7,16 +7,19 @@ for the front door alone, tests/stored and tests/files.
 docs/VECTORS.md has the format. The numbers expected are the model's. Where the papers name one, the script ends if the model has another.
 Nothing but the seeds below decides what is made, so that a second run writes the same bytes.
 """
+import functools
 import itertools
 import os
 import random
 import sys
 
-from office import MENDED, RETRIED, SWALLOWED, WITHDRAWN
+import levels
+import nested
+from office import DELETE, MENDED, RESTORE, RESTORED, RETRIED, SWALLOWED, TELL, WITHDRAWN
 from parallels import every_run, every_set
 from plainest import every_set_left
-from plans import (CHOICE, COMPENSATION, HANDLER, PARALLEL, SEQUENCE, SKIP, THROW, TWENTY_ONE, block, blocks_of, damaged, flat, model_in, named, number_of,
-                   random_plan, whole)
+from plans import (CHOICE, COMPENSATION, HANDLER, PARALLEL, SEQUENCE, SKIP, THROW, TRIES, TWENTY_ONE, block, blocks_of, damaged, deepest, flat, model_in, named,
+                   nested_plan, number_of, random_plan, whole)
 from sessions import Model, permitted, random_entries, session_of
 from shown import RECORD
 from stored import chart_lines, inspect_lines, other_records, stored_cases, verdict_lines
@@ -27,6 +30,12 @@ SEED_DAMAGED, DAMAGED = 20072, 1000
 SEED_FEW, FEW = 20073, 220
 SEED_MANY, MANY = 20074, 120
 SEED_MADE_UP, MADE_UP = 20075, 30
+# plans in which an undo has an undo, and damaged files of which compensations may stand a level deeper; then sessions with such plans, and made-up jobs
+SEED_NESTED, NESTED_PLANS = 20080, 25
+SEED_DEEP, DEEP = 20081, 50
+SEED_NESTED_FEW, NESTED_FEW = 20082, 60
+SEED_NESTED_MANY, NESTED_MANY = 20083, 40
+SEED_NESTED_MADE_UP, NESTED_MADE_UP = 20084, 6
 # what the program has room for: the bytes of a name, and of a data file
 NAME_ROOM, DATA_ROOM = 64, 1048576
 # the bytes of the largest file, which a job has room for
@@ -63,7 +72,7 @@ LARGEST = large(MOST_FILE)
 
 
 def plans_of_document():
-    """P1 to P8; where document 01 gives no pairs or no rule, there are no pairs, and the rule is action 0"""
+    """P1 to P8 of document 01; where it gives no pairs or no rule, there are no pairs, and the rule is action 0"""
     action = lambda a: (0, a, 0)
     yield 'P1', P1
     yield 'P2', whole([3, 3], (), [action(0), SKIP, (HANDLER, 0, 1), action(1), (SEQUENCE, 2, 3)], [1, 0x80, 0, 0x82])
@@ -76,7 +85,22 @@ def plans_of_document():
     yield 'P8', whole([3], (), [action(0), action(0), (SEQUENCE, 0, 1)])
 
 
+def plans_of_change():
+    """Q1 to Q5, the plans that undos of undos (document 02, N14) are tried on: name, file, and the sets that runs leave. No pairs, and the rule is action 0"""
+    action = lambda a: (0, a, 0)
+    yield 'Q1', whole([1, 1, 1], (), [action(0), action(1), action(2), (COMPENSATION, 1, 2), (COMPENSATION, 0, 3), THROW, (SEQUENCE, 4, 5)]), {3}
+    in_two_parts = [action(0), action(1), action(2), (COMPENSATION, 1, 2), action(3), (SEQUENCE, 3, 4), (COMPENSATION, 0, 5), THROW, (SEQUENCE, 6, 7)]
+    yield 'Q2', whole([1, 1, 1, 3], (), in_two_parts), {7, 11}
+    yield 'Q3', whole([1, 1, 1, 2, 1], (), in_two_parts + [action(4), (HANDLER, 8, 9)]), {23}
+    yield 'Q4', whole([1, 1, 1, 1, 3], (), [action(0), action(1), action(2), (COMPENSATION, 1, 2), (COMPENSATION, 0, 3), action(3), action(4),
+                                            (COMPENSATION, 5, 6), (PARALLEL, 4, 7), THROW, (SEQUENCE, 8, 9)]), {15, 27}
+    yield 'Q5', whole([1, 2, 1, 1, 1], (), [action(0), action(1), (COMPENSATION, 0, 1), action(2), action(3), action(4), (COMPENSATION, 4, 5),
+                                            (COMPENSATION, 3, 6), (SEQUENCE, 2, 7), THROW, (SEQUENCE, 8, 9)]), {29}
+
+
+# two levels of undos, and three
 NESTED = [SKIP, SKIP, (COMPENSATION, 0, 1), SKIP, (COMPENSATION, 3, 2)]
+THIRD = NESTED + [SKIP, (COMPENSATION, 5, 4)]
 # (0 with undo 1) in parallel with (2 with undo 3), then a throw; of these 1 alone may fail, and the rule is action 3
 UNDONE_TOGETHER = whole([1, 3, 1, 1], (), [(0, 0, 0), (0, 1, 0), (COMPENSATION, 0, 1), (0, 2, 0), (0, 3, 0), (COMPENSATION, 3, 4), (PARALLEL, 2, 5),
                                            THROW, (SEQUENCE, 6, 7)], [3])
@@ -102,7 +126,10 @@ def examples_of_table():
     yield '7: two skips, as they stand', None, flat([SKIP, SKIP])
     yield '7: two skips', 7, whole([1], (), [SKIP, SKIP])
     yield '8: compensation in an undo side, as it stands', None, flat(NESTED)
-    yield '8: compensation in an undo side', 8, whole([1], (), NESTED)
+    # by document 02 (N14) it passes, and a third level does not
+    yield '8: compensation in an undo side', 0, whole([1], (), NESTED)
+    yield '8: a third level, as it stands', None, flat(THIRD)
+    yield '8: a third level', 8, whole([1], (), THIRD)
     yield '9: 80 alone, as it stands', None, bytes([0x80])
     yield '9: 80 alone', 9, whole([1], (), [SKIP], [0x80])
 
@@ -246,7 +273,7 @@ def pairs_replaced():
 
 
 def edges_of_nesting():
-    """compensations below one another: in a left side they may stand, in a right side not"""
+    """compensations below one another: in a left side they may stand as they like, in a right side one deep"""
     inner = over(COMPENSATION, [SKIP], [SKIP])
     for form in (SEQUENCE, PARALLEL, CHOICE, HANDLER):
         for depth in range(5):
@@ -273,6 +300,47 @@ def edges_of_nesting():
     yield 'compensation at the end of a long right side', whole(nodes=over(COMPENSATION, inner, over(SEQUENCE, comb(14), inner)))
 
 
+def edges_of_levels():
+    """two levels of undos, and three: through left and right sides, through other forms, and side by side"""
+    one = over(COMPENSATION, [SKIP], [SKIP])
+    two = over(COMPENSATION, [SKIP], one)
+    within = lambda form, side, nodes: over(form, nodes, [SKIP]) if side == 'left' else over(form, [SKIP], nodes)
+    # from the innermost compensation out, each the left or the right side of the next: those to the right count
+    for length in (2, 3, 4, 5):
+        for sides in itertools.product(('left', 'right'), repeat=length - 1):
+            nodes = one
+            for side in sides:
+                nodes = within(COMPENSATION, side, nodes)
+            yield f'compensations, each in the next one: {" ".join(sides)}', whole(nodes=nodes)
+    for left, right in itertools.product((0, 1, 2, 3), (0, 1, 2)):
+        sides = [[SKIP], one, two, over(COMPENSATION, [SKIP], two)]
+        yield f'a compensation over levels {left} and {right}', whole(nodes=over(COMPENSATION, sides[left], sides[right]))
+    for form in (SEQUENCE, PARALLEL, CHOICE, HANDLER):
+        yield f'two levels twice, form {form}', whole(nodes=over(form, two, two))
+        yield f'two levels twice, form {form}, undone', whole(nodes=over(COMPENSATION, over(form, two, two), [SKIP]))
+        yield f'one level twice, form {form}, undoing', whole(nodes=over(COMPENSATION, [SKIP], over(form, one, one)))
+        for side in ('left', 'right'):
+            deep = within(form, side, over(COMPENSATION, [SKIP], within(form, side, one)))
+            yield f'two levels {side} of {form}', whole(nodes=deep)
+            yield f'three levels {side} of {form}', whole(nodes=over(COMPENSATION, [SKIP], deep))
+            yield f'two levels {side} of {form}, left of a compensation, undoing', whole(nodes=over(COMPENSATION, [SKIP], over(COMPENSATION, deep, [SKIP])))
+            yield f'one level {side} of {form}, left of one, undoing', whole(nodes=over(COMPENSATION, [SKIP], over(COMPENSATION, within(form, side, one), [SKIP])))
+    # far from one another
+    for name, nodes in (('two', one), ('three', two)):
+        yield f'{name} levels, a long undo between', whole(nodes=over(COMPENSATION, [SKIP], over(SEQUENCE, comb(27), nodes)))
+        yield f'{name} levels, a long way to the left', whole(nodes=over(COMPENSATION, [SKIP], functools.reduce(
+            lambda deep, _: over(COMPENSATION, deep, [SKIP]), range(27), nodes)))
+    # with the earlier and the later checks of the nodes, and of the rule
+    for name, nodes in (('two', NESTED), ('three', THIRD)):
+        yield f'{name} levels, and a skip with a byte', whole(nodes=over(SEQUENCE, nodes, [(1, 0, 1)]))
+        yield f'{name} levels, and before them a skip with a byte', whole(nodes=over(SEQUENCE, [(1, 0, 1)], nodes))
+        yield f'{name} levels, and a node not named', whole(nodes=[SKIP] + over(SEQUENCE, [SKIP], nodes)[1:-1])
+        yield f'{name} levels, and a node named twice', whole(nodes=nodes + [(SEQUENCE, len(nodes) - 1, len(nodes) - 1)])
+        for rule in ('80', '00 00', '81', '83', '00 81'):
+            yield f'{name} levels, rule {rule}', whole(nodes=nodes, rule=bytes.fromhex(rule))
+        yield f'{name} levels, no rule', whole(nodes=nodes)[:-5]
+
+
 def cuts():
     for name, file in (('P1', P1), ('the largest file', LARGEST)):
         for n in range(len(file)):
@@ -292,7 +360,7 @@ BROKEN = {4: b'\x04', 5: bytes([0, 0]), 9: b'\x80'}
 
 def nodes_with(faults):
     """a node list that breaks some of the checks 6, 7, 8"""
-    nodes = NESTED if 8 in faults else [SKIP]
+    nodes = THIRD if 8 in faults else [SKIP]
     if 6 in faults:
         nodes = over(SEQUENCE, [(1, 1, 0)], nodes)
     return over(SEQUENCE, [SKIP], nodes)[:-1] if 7 in faults else nodes
@@ -359,6 +427,18 @@ def long_plans():
         yield f'15 undone actions of form {form}, then two actions', over(SEQUENCE, over(SEQUENCE, nodes, action(2)), action(2))
 
 
+def long_nested_plans():
+    """plans of 63 nodes in which undos have undos: name, file"""
+    action = lambda a: [(0, a, 0)]
+    part = over(COMPENSATION, action(1), action(2))
+    # the whole fails, and a handler goes on
+    handled = lambda nodes: over(HANDLER, over(SEQUENCE, nodes, [THROW]), action(3))
+    for form in (SEQUENCE, PARALLEL):
+        many = lambda n, nodes: functools.reduce(lambda left, _: over(form, left, nodes), range(n - 1), nodes)
+        yield f'10 nested undos of form {form}', handled(many(10, over(COMPENSATION, action(0), part)))
+        yield f'an undo of 14 parts of form {form}', handled(over(COMPENSATION, action(0), over(SEQUENCE, many(14, part), [THROW])))
+
+
 def answer_of(told, number=0):
     """what a vector holds of an answer: its number where it is a refusal, and else 0, the leaves that may come, the end"""
     if told is None:
@@ -381,6 +461,17 @@ def session_body(rng, cells, file, most):
     return started(file, model.told, random_entries(rng, model, most))
 
 
+def nested_session_body(rng, cells, leaves, most):
+    """a session at random with a plan of so many leaves in which undos have undos; one that comes to such, where one of several does"""
+    for _ in range(TRIES):
+        file = nested_plan(cells, rng, leaves)
+        model = Model(cells, file)
+        start, steps = model.told, list(random_entries(rng, model, most))
+        if deepest(model.tree, model.record) == 2:
+            break
+    return started(file, start, steps)
+
+
 def run_body(cells, file, entries):
     """a session with these entries"""
     model = Model(cells, file)
@@ -389,13 +480,14 @@ def run_body(cells, file, entries):
 
 def runs_vectors(cells):
     """name, body: sessions with small and large plans, and jobs that are made up"""
-    for name, file in plans_of_document():
+    for name, file in list(plans_of_document()) + [(name, file) for name, file, _ in plans_of_change()] + [('restored', RESTORED)]:
         rng = random.Random(name)
         for n in range(6):
             yield f'{name}, session {n}', session_body(rng, cells, file, 30)
-    for name, file in (('P1 without its rule', P1[:-9]), ('an empty file', b''), ('two skips', whole(nodes=[SKIP, SKIP]))):
+    refused = {'P1 without its rule': P1[:-9], 'an empty file': b'', 'two skips': whole(nodes=[SKIP, SKIP]), 'a third level': whole(nodes=THIRD)}
+    for name, file in refused.items():
         yield f'{name} at the start', bytes([0]) + len(file).to_bytes(2, 'little') + file + answer_of(None, number_of(cells, file))
-    for name, file, entries in every_run(cells):
+    for name, file, entries in itertools.chain(every_run(cells), every_run(cells, nested.plans), levels.plans(cells)):
         yield name, run_body(cells, file, entries)
     rng = random.Random(SEED_FEW)
     for n in range(FEW):
@@ -408,21 +500,32 @@ def runs_vectors(cells):
     for n in range(MANY):
         leaves = rng.choice([8, 13, 21, 32, 32, 32])
         yield f'plan {n} of {leaves} leaves, seed {SEED_MANY}', session_body(rng, cells, random_plan(cells, rng, leaves), 60)
-    rng = random.Random(SEED_MADE_UP)
-    for n in range(MADE_UP):
-        yield from made_up(rng, cells, n)
+    rng = random.Random(SEED_NESTED_FEW)
+    for n in range(NESTED_FEW):
+        yield f'plan {n} of few leaves, seed {SEED_NESTED_FEW}', nested_session_body(rng, cells, rng.choice([5, 6]), 20)
+    rng = random.Random(SEED_NESTED_MANY)
+    for name, nodes in long_nested_plans():
+        for n in range(3):
+            yield f'{name}, session {n}', session_body(rng, cells, whole([1, 3, 3, 3], (), nodes), 80)
+    for n in range(NESTED_MANY):
+        leaves = rng.choice([8, 13, 21, 32, 32, 32])
+        yield f'plan {n} of {leaves} leaves, seed {SEED_NESTED_MANY}', nested_session_body(rng, cells, leaves, 60)
+    for seed, count, depth in ((SEED_MADE_UP, MADE_UP, 1), (SEED_NESTED_MADE_UP, NESTED_MADE_UP, 2)):
+        rng = random.Random(seed)
+        for n in range(count):
+            yield from made_up(rng, cells, f'{n} of seed {seed}', depth)
 
 
-def made_up(rng, cells, n):
-    """a real job with entries taken, and each thing that makes it a false one; what is told to it is the model's: name, body"""
+def made_up(rng, cells, n, depth):
+    """a real job with entries taken, where undos have undos one in an undo, and each thing that makes it a false one; what is told to it is the model's: name, body"""
     while True:
-        file = random_plan(cells, rng, rng.choice([2, 3, 4, 6, 8, 32]))
+        file = random_plan(cells, rng, rng.choice([2, 3, 4, 6, 8, 32])) if depth == 1 else nested_plan(cells, rng, rng.choice([5, 6, 8, 32]))
         model = Model(cells, file)
         for _ in range(rng.randrange(1, 8)):
             good = permitted(model)
             if good:
                 model.take(rng.choice(good))
-        if model.record and permitted(model):
+        if model.record and permitted(model) and deepest(model.tree, model.record) >= depth - 1:
             break
     entry, record = rng.choice(permitted(model)), model.record
     flat_record = flat(record)
@@ -438,7 +541,7 @@ def made_up(rng, cells, n):
         if kind == 'as it is' and told is None or kind != 'as it is' and told is not None:
             sys.exit(f'job {n}, {kind}: the model has {told}')
         body = bytes([1]) + room + length.to_bytes(8, 'little') + rest + taken.to_bytes(8, 'little')
-        return f'job {n} of seed {SEED_MADE_UP}, {kind}', body + step_of(entry, told) + step_of((entry[0], 0), None)
+        return f'job {n}, {kind}', body + step_of(entry, told) + step_of((entry[0], 0), None)
 
     yield job('as it is')
     for length in (0, len(file) - 1, MOST_FILE + 1, 2 ** 32 + len(file), 2 ** 64 - 1):
@@ -487,6 +590,15 @@ def data_of(vectors):
     return out
 
 
+def of_restored(cells):
+    """the office's plan of a withdrawal that is taken back, with the rule "deleted and told, or neither", which the restore keeps; and without the restore"""
+    types, pairs, nodes, _ = cells.parse(RESTORED)
+    both = [DELETE, TELL, 0x81, DELETE, 0x80, TELL, 0x80, 0x81, 0x82]
+    yield 'restored, deleted and told or neither', whole(types, pairs, nodes, both)
+    yield 'not restored, deleted and told or neither', whole(types, pairs, [SKIP if n == (0, RESTORE, 0) else n for n in nodes], both)
+    yield 'restored where that may fail, deleted and told or neither', whole(types[:-1] + [3], pairs, nodes, both)
+
+
 def write_programs(cells, write, of_course):
     """what the other programs read and are to write, the plans of the course, and the stored cases"""
     for name, file in of_course.items():
@@ -505,9 +617,9 @@ def write_programs(cells, write, of_course):
     write('crates/run/stdin', session_by_hand())
     write('crates/run/stdout', session_of(cells, SWALLOWED, session_by_hand()).encode())
     # of the examples for one number the last, which is a whole file
-    own = {f'refused-{number}': file for _, number, file in examples_of_table() if number not in (None, 8)}
+    own = {f'refused-{number}': file for _, number, file in examples_of_table() if number not in (None, 0, 8)}
     own |= {'fourth-undo': whole([1] * 5, [(0, u) for u in range(1, 5)]), 'largest': LARGEST, 'too-long': LARGEST + b'\0'}
-    own |= {'undone-together': UNDONE_TOGETHER, 'taken-in-turns': TAKEN_IN_TURNS}
+    own |= {'undone-together': UNDONE_TOGETHER, 'taken-in-turns': TAKEN_IN_TURNS, 'second-level': whole(nodes=NESTED)}
     for name, file in own.items():
         write(f'tests/files/{name}.plan', file)
     for name, words, reads, writes in stored_cases(cells, of_course, own):
@@ -575,9 +687,14 @@ def main():
 
     for name, file in plans_of_document():
         add(name, file, 0)
+    for name, file, sets in plans_of_change():
+        add(name, file, 0)
+        types, _, nodes, _ = cells.parse(file)
+        if cells.plan_sets(cells.tree_of(nodes, types)) != sets:
+            sys.exit(f'{name}: the model has other sets than {sets}')
     for name, number, file in examples_of_table():
         add(f'example of {name}', file, number)
-    for part in (edges_of_lengths, edges_of_headings, edges_of_contents, edges_of_pairs, edges_of_undos, pairs_replaced, edges_of_nesting, cuts):
+    for part in (edges_of_lengths, edges_of_headings, edges_of_contents, edges_of_pairs, edges_of_undos, pairs_replaced, edges_of_nesting, edges_of_levels, cuts):
         for name, file in part():
             add(name, file)
     for name, number, file in two_faults():
@@ -591,6 +708,13 @@ def main():
         for _ in range(rng.choice([1, 1, 1, 2, 3])):
             file = damaged(rng, file)
         add(f'damaged plan {n} of seed {SEED_DAMAGED}', file)
+    rng = random.Random(SEED_NESTED)
+    for n in range(NESTED_PLANS):
+        add(f'plan {n} of seed {SEED_NESTED}', nested_plan(cells, rng, rng.choice([3, 4, 5, 6, 8, 13, 32])), 0)
+    rng = random.Random(SEED_DEEP)
+    for n in range(DEEP):
+        file = random_plan(cells, rng, rng.choice([3, 4, 5, 6, 8, 13]), depth=3)
+        add(f'plan {n} of seed {SEED_DEEP}, up to three levels', file if n % 2 else damaged(rng, file))
 
     def write(path, data):
         path = os.path.join(root, path)
@@ -604,7 +728,10 @@ def main():
     write('crates/compare/data/runs', data_of(runs))
     judged = list(plans_of_document()) + [('swallowed', SWALLOWED), ('mended', MENDED)]
     withdrawn, retried = ('withdrawn', WITHDRAWN), ('retried', RETRIED)
-    verdicts = list(verdict_vectors(cells, judged + [withdrawn, retried], itertools.chain(edges_of_lengths(), every_set(cells), every_set_left(cells))))
+    with_nested = [(name, file) for name, file, _ in plans_of_change()] + [('restored', RESTORED)]
+    edges = itertools.chain(edges_of_lengths(), every_set(cells), every_set_left(cells), nested.every_set_left(cells), of_restored(cells),
+                            ((name, file) for name, file, _ in levels.plans(cells)))
+    verdicts = list(verdict_vectors(cells, judged + [withdrawn, retried] + with_nested, edges))
     write('crates/compare/data/verdicts', data_of(verdicts))
     counts = ''.join(f'{group}: {n} vectors, {n} agree\n' for group, n in (('files', len(vectors)), ('runs', len(runs)), ('verdicts', len(verdicts))))
     write('crates/compare/stdout', counts.encode())
@@ -612,14 +739,15 @@ def main():
     write_other_records(write, runs, verdicts)
     write_course(cells, write)
     # last, so that the lines of the others keep their numbers, which docs/GUIDE.md has
-    course = judged + [('broken', whole([3], (), NESTED)), withdrawn, retried]
+    course = judged + [('broken', whole([3], (), THIRD)), withdrawn, retried] + with_nested
     write_programs(cells, write, {name.lower(): file for name, file in course})
     counts = {number: sum(n == number for _, n, _ in vectors) for number in range(10)}
     print(f'files: {len(vectors)} vectors, {len(files)} bytes; of each number:', ', '.join(f'{k}: {v}' for k, v in counts.items()))
     steps = [body[at:at + 12] for _, body in runs if body[0] == 0 for at in range(13 + int.from_bytes(body[1:3], 'little'), len(body), 12)]
     taken = sum(step[2] == 0 for step in steps)
     jobs = sum(body[0] == 1 for _, body in runs)
-    print(f'runs: {len(runs) - jobs} sessions, {len(steps)} entries offered, {taken} of them taken; {jobs} jobs, {MADE_UP} of them real')
+    real = MADE_UP + NESTED_MADE_UP
+    print(f'runs: {len(runs) - jobs} sessions, {len(steps)} entries offered, {taken} of them taken; {jobs} jobs, {real} of them real')
     answers = [int.from_bytes(body[:4], 'little') // 65536 for _, body in verdicts]
     print(f'verdicts: {answers.count(0)} consistent, {answers.count(1)} violated, {answers.count(2)} refused')
 

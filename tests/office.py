@@ -1,7 +1,7 @@
-"""The office's own story, as four plans: a sweep is measured, stored, a reverberation time computed from it, and the figure filed.
+"""The office's own story, as five plans: a sweep is measured, stored, a reverberation time computed from it, and the figure filed.
 
-What make_vectors.py writes beside P1 to P8. Actions: 0 sweep, 1 store, 2 reverberation time, 3 file; and in the third plan 4 withdraw by the server,
-5 withdraw by hand.
+What make_vectors.py writes beside P1 to P8. Actions: 0 sweep, 1 store, 2 reverberation time, 3 file; in WITHDRAWN 4 withdraw by the server, 5 withdraw by
+hand; and in RESTORED 4 delete the recording, 5 tell the archive, 6 restore the recording.
 """
 from plans import SKIP, whole
 
@@ -36,3 +36,11 @@ CABLE = [action(STORE), action(STORE), SKIP, (7, 2, 3), (7, 1, 4)]
 NETWORK = [action(STORE)] * 5 + [SKIP, (7, 10, 11), (7, 9, 12), (7, 8, 13), (7, 7, 14), (7, 6, 15)]
 RETRIED = whole([3, 3, 1, 1], (), [action(SWEEP)] + CABLE + NETWORK + [(5, 5, 16), (3, 0, 17), action(TIME), (3, 18, 19), action(FILE), (3, 20, 21)],
                 [FILE, 0x80, STORE, 0x82])
+
+# A store is undone in two parts: the recording is deleted, and the archive told. A deletion is undone by a restore, so that where the archive cannot be told the
+# recording is there again. The rule, "3, or 4, or not 1": a recording that is there has a figure; the restore, being an undo of the deletion, takes it back.
+DELETE, TELL, RESTORE = range(4, 7)
+WITHDRAWAL = [action(DELETE), action(RESTORE), (6, 2, 3), action(TELL), (3, 4, 5)]
+RESTORED = whole([3, 3, 3, 1, 1, 3, 1], [(DELETE, RESTORE)],
+                 [action(SWEEP), action(STORE)] + WITHDRAWAL + [(6, 1, 6), (3, 0, 7), action(TIME), (3, 8, 9), action(FILE), (3, 10, 11)],
+                 [FILE, DELETE, 0x82, STORE, 0x80, 0x82])

@@ -38,7 +38,7 @@ def plans():
             yield f'parallel: {name}, {types}', [int(t) for t in types], tree
 
 
-def every_run(model):
+def every_run(model, plans=plans):
     """each complete run of each plan, in the order of its bytes: name, file, entries; then each leaf once more, which nothing lets come"""
     for name, types, tree in plans():
         nodes = model.nodes_of(tree)

@@ -14,29 +14,75 @@ SKIP, THROW = (1, 0, 0), (2, 0, 0)
 SEQUENCE, PARALLEL, CHOICE, COMPENSATION, HANDLER = 3, 4, 5, 6, 7
 # how many pairs an action may be first in
 MOST_UNDOS = 3
+# how many compensations may stand in one another's right sides
+MOST_DEPTH = 2
+# how often a plan is made anew whose run does not come to the undo of an undo
+TRIES = 8
 # as many pairs as there can be: seven actions, each with the same three undos
 TWENTY_ONE = [(a, u) for a in range(7) for u in (7, 8, 9)]
 
 
-def both_begin(module):
-    """turns the switch of all functions and classes of the module that have it: both sides of a parallel begin, whoever calls"""
+# up to so many leaves all runs of a plan are gone through, and of one without parallels, which has few, up to so many
+FEW_LEAVES, FEW_IN_TURN = 6, 12
+
+
+def leaves_of(tree):
+    return [tree] if tree[0] == 'leaf' else leaves_of(tree[1]) + leaves_of(tree[2])
+
+
+def has_parallel(tree):
+    return tree[0] != 'leaf' and (tree[0] == 'par' or has_parallel(tree[1]) or has_parallel(tree[2]))
+
+
+def is_small(tree):
+    return len(leaves_of(tree)) <= (FEW_LEAVES if has_parallel(tree) else FEW_IN_TURN)
+
+
+def depth_of(tree):
+    """how many compensations stand in one another's right sides, at most"""
+    return 0 if tree[0] == 'leaf' else max(depth_of(tree[1]), depth_of(tree[2]) + (tree[0] == 'comp'))
+
+
+def deepest(tree, run, level=0):
+    """how deep in undos the deepest entry of a run stands: 0 forward, 1 in an undo, 2 in the undo of an undo; -1 where none is the tree's"""
+    if tree[0] == 'leaf':
+        return level if any(leaf == tree[1] for leaf, _ in run) else -1
+    return max(deepest(tree[1], run, level), deepest(tree[2], run, level + (tree[0] == 'comp')))
+
+
+def with_switches(module):
+    """turns the switches of all functions and classes of the module that have them: both sides of a parallel begin, and an undo may have an undo, whoever calls"""
+    switches = {'both': True, 'both_begin': True, 'levels': MOST_DEPTH + 1}
     for thing in vars(module).values():
         function = thing.__init__ if inspect.isclass(thing) else thing
         if inspect.isfunction(function):
             optional = [p for p in inspect.signature(function).parameters.values() if p.default is not p.empty]
-            function.__defaults__ = tuple(True if p.name in ('both', 'both_begin') else p.default for p in optional)
+            function.__defaults__ = tuple(switches.get(p.name, p.default) for p in optional)
 
 
 def model_in(folder):
-    """the model's module cells.py, which has all of oracle.py's names too, with after.py's reader of files: several undos of an action, and none of an undo;
-    with both sides of a parallel beginning; and with after.py's search for the plainest run of a tree that leaves a set"""
+    """the model's module cells.py, which has all of oracle.py's names too, with after.py's reader of files: several undos of an action, and undos two deep;
+    with both sides of a parallel beginning; with after.py's sets of a tree, its search for the plainest run of a tree that leaves a set, and its codes of both sides of
+    a node as one"""
     sys.path.insert(0, folder)
     oracle, cells, after = (importlib.import_module(name) for name in ('oracle', 'cells', 'after'))
-    # in both, since what oracle.py defines reads files by oracle.py's name
-    oracle.parse = cells.parse = lambda file, several=True: after.parse2(file, several, 1)
-    both_begin(oracle)
-    both_begin(cells)
-    cells.plainest = after.lazy2
+    with_switches(oracle)
+    with_switches(cells)
+    by_chart = oracle.plan_sets
+
+    def plan_sets(tree):
+        """the sets that complete runs leave; the script ends where the chart, of a plan without nested compensations, or the runs, of a small one, have others"""
+        sets = after.sets2(tree)
+        if depth_of(tree) < 2 and by_chart(tree) != sets:
+            sys.exit(f'{tree}: the sets are {sets}, the chart has {by_chart(tree)}')
+        if is_small(tree) and {cells.set_of(run, tree) for run, _ in cells.Sem().complete(tree)} != sets:
+            sys.exit(f'{tree}: the sets are {sets}, which are not those of its runs')
+        return sets
+
+    # in both, since what oracle.py defines reads files and finds sets by oracle.py's names
+    oracle.parse = cells.parse = after.parse2
+    oracle.plan_sets = cells.plan_sets = plan_sets
+    cells.plainest, cells.join = after.lazy2, after.join
     return cells
 
 
@@ -47,25 +93,25 @@ def asked(doc):
     return model_in(sys.argv[1]), int(sys.argv[2]), int(sys.argv[3]), 1 if sys.argv[4:] else MOST_UNDOS
 
 
-def number_of(model, file, several=True):
-    """document 01's number for a file, as the model has it: 0 where it is accepted. Where not `several`, an action has one undo at most, and there are
-    nine pairs at most"""
+def number_of(model, file, several=True, depth=MOST_DEPTH):
+    """the papers' number for a file, as the model has it: 0 where it is accepted. Where not `several`, an action has one undo at most, and there are
+    nine pairs at most; compensations may stand so deep in one another's right sides"""
     try:
-        model.parse(bytes(file), several)
+        model.parse(bytes(file), several, depth)
         return 0
     except model.Refused as refused:
         return refused.args[0]
 
 
 def alike(model, file):
-    """whether a file reads the same where an action has one undo at most, and is no plan with a parallel"""
+    """whether a file reads the same where an action has one undo at most and no undo has an undo, and is no plan with a parallel"""
     number = number_of(model, file)
-    return number == number_of(model, file, several=False) and (number != 0 or all(form != PARALLEL for form, _, _ in model.parse(bytes(file))[2]))
+    return number == number_of(model, file, several=False, depth=1) and (number != 0 or all(form != PARALLEL for form, _, _ in model.parse(bytes(file))[2]))
 
 
 def made(model, undos, make):
     """the file that `make` makes. Where an action may have one undo only, it is one that programs from before there could be more answer alike: damage
-    may add some, and parallels"""
+    may add some, parallels and nested compensations"""
     while True:
         file = make()
         if undos > 1 or alike(model, file):
@@ -125,30 +171,60 @@ def random_pairs(rng, actions, undos):
     return rng.sample(pairs, len(pairs))
 
 
-def random_plan(model, rng, leaves=None, undos=MOST_UNDOS):
+def random_depth(rng, undos, most=MOST_DEPTH):
+    """how deep the compensations of a random plan may be nested: 1 where an action may have one undo only, else up to so deep"""
+    return rng.randrange(1, most + 1) if undos > 1 else 1
+
+
+def undone_tree(rng, leaves, actions, depth, fails):
+    """a tree with compensations nested up to so deep. Where it is to fail, that mostly comes last, so that much is undone; and many undos are to fail"""
+    if leaves == 1:
+        return rng.choice([('throw',)] if fails else [('skip',), ('throw',)] + [('act', rng.randrange(actions)) for _ in range(10)])
+    if fails and rng.randrange(4):
+        return ('seq', undone_tree(rng, leaves - 1, actions, depth, False), ('throw',))
+    form = rng.choice(['seq', 'seq', 'par', 'choice', 'handler'] + ['comp'] * (6 if depth else 0))
+    # the undo is mostly the larger side
+    left = rng.randrange(1, leaves) if form != 'comp' else min(rng.randrange(1, leaves) for _ in range(3))
+    first = form == 'handler' and rng.randrange(2) == 0
+    second = fails if form != 'comp' else depth > 1 and rng.randrange(3) > 0
+    return (form, undone_tree(rng, left, actions, depth, first), undone_tree(rng, leaves - left, actions, depth - (form == 'comp'), second))
+
+
+def random_plan(model, rng, leaves=None, undos=MOST_UNDOS, depth=1):
     """the file of a plan of 1 to 10 actions and 1 to 32 leaves, a third of them with their nodes in an order other than the model's; without parallels
-    where an action may have one undo only"""
+    where an action may have one undo only; with compensations nested up to so deep, of which more than two levels are more than a plan may have"""
     actions = rng.randrange(1, 11)
-    types = [rng.choice([1, 2, 3]) for _ in range(actions)]
-    nodes = model.nodes_of(model.rand_tree(rng, leaves or rng.choice([1, 2, 3, 5, 8, 13, 21, 32]), actions))
+    types = [rng.choice([1, 2, 3] if depth == 1 else [1, 1, 1, 2, 3, 3]) for _ in range(actions)]
+    leaves = leaves or rng.choice([1, 2, 3, 5, 8, 13, 21, 32])
+    tree = model.rand_tree(rng, leaves, actions) if depth == 1 else undone_tree(rng, leaves, actions, depth, rng.randrange(5) > 0)
+    nodes = model.nodes_of(tree)
     nodes = in_another_order(rng, nodes) if rng.randrange(3) == 0 else nodes
     nodes = nodes if undos > 1 else [(SEQUENCE if form == PARALLEL else form, left, right) for form, left, right in nodes]
     rule = model.rand_rule(rng, actions, rng.randrange(0, 7))
     return model.encode(types, random_pairs(rng, actions, undos), nodes, rule)
 
 
-def crowded_plan(model, rng, undos=MOST_UNDOS):
-    """the file of a plan of few actions, each at several leaves, most of which may be left out or may fail: so many runs leave one set"""
+def nested_plan(model, rng, leaves):
+    """the file of a plan of so many leaves in which an undo has an undo"""
+    while True:
+        file = random_plan(model, rng, leaves, depth=MOST_DEPTH)
+        if number_of(model, file, depth=MOST_DEPTH - 1) == 8:
+            return file
+
+
+def crowded_plan(model, rng, undos=MOST_UNDOS, depth=1):
+    """the file of a plan of few actions, each at several leaves, most of which may be left out or may fail: so many runs leave one set. Compensations are nested
+    up to so deep"""
     actions = rng.randrange(1, 6)
     leaves = rng.choice([3, 4, 5, 6, 6, 8, 10, 12, 20, 32])
     forms = ['seq', 'handler', 'choice'] + (['par', 'par'] if undos > 1 else ['seq'])
 
-    def tree(leaves, in_undo):
+    def tree(leaves, depth):
         if leaves == 1:
             return rng.choice([('skip',), ('throw',)] + [('act', rng.randrange(actions)) for _ in range(8)])
-        left, form = rng.randrange(1, leaves), rng.choice(forms + ([] if in_undo else ['comp']))
-        return (form, tree(left, in_undo), tree(leaves - left, in_undo or form == 'comp'))
-    nodes = in_another_order(rng, model.nodes_of(tree(leaves, False)))
+        left, form = rng.randrange(1, leaves), rng.choice(forms + ['comp'] * depth)
+        return (form, tree(left, depth), tree(leaves - left, depth - (form == 'comp')))
+    nodes = in_another_order(rng, model.nodes_of(tree(leaves, depth)))
     types = [rng.choice([1, 2, 3, 3, 3, 3]) for _ in range(actions)]
     return model.encode(types, random_pairs(rng, actions, undos), nodes, model.rand_rule(rng, actions, rng.randrange(0, 5)))
 

@@ -6,14 +6,10 @@ enumeration of the runs, for small ones. Where a plan is small the two are compa
 import re
 import sys
 
-# up to so many leaves the runs are enumerated as well
-FEW_LEAVES = 6
+from plans import FEW_LEAVES, leaves_of
+
 NUMBER = '(0|[1-9][0-9]{0,2})'
 ENTRY = re.compile(f'{NUMBER} {NUMBER}'.encode())
-
-
-def leaves_of(tree):
-    return [tree] if tree[0] == 'leaf' else leaves_of(tree[1]) + leaves_of(tree[2])
 
 
 class Model:

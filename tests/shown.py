@@ -6,25 +6,14 @@ the two differ.
 """
 import sys
 
-from plans import flat
-from sessions import FEW_LEAVES, leaves_of
+from plans import flat, is_small
 
-# up to so many leaves a plan without parallels has few runs too
-FEW_IN_TURN = 12
 RECORD = 126
 
 
 def record_of(run):
     """the bytes of the record area: two for each entry, then zeros"""
     return flat(run).ljust(RECORD, b'\0')
-
-
-def has_parallel(tree):
-    return tree[0] != 'leaf' and (tree[0] == 'par' or has_parallel(tree[1]) or has_parallel(tree[2]))
-
-
-def is_small(tree):
-    return len(leaves_of(tree)) <= (FEW_LEAVES if has_parallel(tree) else FEW_IN_TURN)
 
 
 def failures(run):

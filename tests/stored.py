@@ -77,12 +77,23 @@ SESSIONS = {
     'no-input': ('p1', b'', 'open'),
     # a recording is withdrawn by the server, and then by hand as well
     'withdrawn-twice': ('withdrawn', b'0 1\n1 1\n9 2\n2 1\n5 1\n', 'may end failed'),
+    # an undo has succeeded, and its own undo is dropped
+    'undo-of-undo-dropped': ('q1', b'0 1\n5 2\n1 1\n2 1\n', 'may end failed'),
+    # a later part of an undo fails: the earlier part's undo comes, not before that, and only then the run may end
+    'undo-of-undo': ('q2', b'0 1\n7 2\n1 1\n2 1\n4 2\n2 1\n', 'may end failed'),
+    # the same, and a handler goes on, but not before the undo has been undone
+    'undo-of-undo-handled': ('q3', b'0 1\n7 2\n1 1\n4 2\n9 1\n2 1\n9 1\n', 'may end succeeded'),
+    # of two undos side by side one fails: the other is undone, once both have ended
+    'undo-of-undo-parallel': ('q4', b'0 1\n5 1\n9 2\n6 2\n2 1\n1 1\n2 1\n', 'may end failed'),
+    # a withdrawal half succeeds, and the recording is restored
+    'restored': ('restored', b'0 1\n1 1\n9 2\n2 1\n5 2\n3 1\n', 'may end failed'),
     # as many entries as a run can have
     'largest': ('largest', b''.join(b'%d 1\n' % n for n in [0] + list(range(1, 63, 2))), 'may end succeeded'),
 }
 # of p3 and undone-together a program that lets a side never begin has a set that breaks the rule; of retried and taken-in-turns there are runs that are not
 # the plainest: more of it fails, or one side of a parallel is done before the other
-CONSISTENT, VIOLATED = ('p1', 'p3', 'mended', 'undone-together'), ('p2', 'p7', 'swallowed', 'withdrawn', 'largest', 'retried', 'taken-in-turns')
+CONSISTENT = ('p1', 'p3', 'mended', 'undone-together', 'q3')
+VIOLATED = ('p2', 'p7', 'swallowed', 'withdrawn', 'largest', 'retried', 'taken-in-turns', 'restored', 'second-level')
 
 
 def stored_cases(cells, of_course, own):
@@ -104,7 +115,7 @@ def stored_cases(cells, of_course, own):
             if not lines.startswith(kind):
                 sys.exit(f'{name}: the model does not say {kind}')
             yield f'verdict-{kind}-{name}', ['verdict', path(name)], None, lines.encode()
-    for name in ('p1', 'withdrawn', 'largest'):
+    for name in ('p1', 'withdrawn', 'largest', 'q3', 'restored', 'second-level'):
         yield f'inspect-accepted-{name}', ['inspect', path(name)], None, inspect_lines(cells, files[name]).encode()
     for case, (name, text, end) in SESSIONS.items():
         lines = run_lines(cells, files[name], text)

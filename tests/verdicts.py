@@ -8,13 +8,17 @@ import functools
 import random
 import sys
 
-from plans import TWENTY_ONE, damaged, named, random_plan
+from plans import TRIES, TWENTY_ONE, damaged, deepest, named, nested_plan, random_plan
 from shown import record_of, shown_run
 
 SEED_PLANS, PLANS = 20076, 300
 SEED_BROKEN, BROKEN = 20077, 300
 SEED_DAMAGED, DAMAGED = 20078, 100
 SEED_RULES, RULES = 20079, 40
+# plans in which an undo has an undo, and damaged files of which compensations may stand a level deeper
+SEED_NESTED, NESTED = 20085, 40
+SEED_NESTED_BROKEN, NESTED_BROKEN = 20086, 80
+SEED_DEEP, DEEP = 20087, 50
 VIOLATED, REFUSED = 65536, 131072
 NOT, AND, OR = 0x80, 0x81, 0x82
 
@@ -112,6 +116,23 @@ def with_rule(model, file, rule):
     return model.encode(types, [], nodes, rule)
 
 
+def broken_by_one(model, rng, file):
+    """the plan with a rule that one of its own sets breaks, and no other"""
+    types, _, nodes, _ = model.parse(bytes(file))
+    number = rng.choice(sorted(model.plan_sets(model.tree_of(nodes, types))))
+    return with_rule(model, file, not_just(len(types), number))
+
+
+def broken_in_undo_of_undo(model, rng):
+    """a plan as the one above, in which undos have undos; one of which the run shown comes to such, where one of several does"""
+    for _ in range(TRIES):
+        file = broken_by_one(model, rng, nested_plan(model, rng, rng.choice([5, 6, 8, 13, 21, 32])))
+        types, _, nodes, _ = model.parse(file)
+        if deepest(model.tree_of(nodes, types), shown_run(model, file, model.verdict(file)[1])) == 2:
+            break
+    return file
+
+
 def plans(model, of_document, edges):
     """name, file, and which areas are too short"""
     for name, file in of_document:
@@ -135,22 +156,30 @@ def plans(model, of_document, edges):
     rng = random.Random(SEED_PLANS)
     for n in range(PLANS):
         yield f'plan {n} of seed {SEED_PLANS}', random_plan(model, rng), 0
-    # a rule that one of the plan's own sets breaks, and no other
     rng = random.Random(SEED_BROKEN)
     for n in range(BROKEN):
-        file = random_plan(model, rng)
-        types, _, nodes, _ = model.parse(bytes(file))
-        number = rng.choice(sorted(model.plan_sets(model.tree_of(nodes, types))))
-        yield f'plan {n} of seed {SEED_BROKEN}', with_rule(model, file, not_just(len(types), number)), 0
+        yield f'plan {n} of seed {SEED_BROKEN}', broken_by_one(model, rng, random_plan(model, rng)), 0
     rng = random.Random(SEED_DAMAGED)
     for n in range(DAMAGED):
         yield f'damaged plan {n} of seed {SEED_DAMAGED}', damaged(rng, random_plan(model, rng)), 0
+    rng = random.Random(SEED_NESTED)
+    for n in range(NESTED):
+        yield f'plan {n} of seed {SEED_NESTED}', nested_plan(model, rng, rng.choice([3, 5, 8, 13, 21, 32])), 0
+    rng = random.Random(SEED_NESTED_BROKEN)
+    for n in range(NESTED_BROKEN):
+        yield f'plan {n} of seed {SEED_NESTED_BROKEN}', broken_in_undo_of_undo(model, rng), 0
+    rng = random.Random(SEED_DEEP)
+    for n in range(DEEP):
+        file = random_plan(model, rng, depth=3)
+        yield f'plan {n} of seed {SEED_DEEP}, up to three levels', file if n % 2 else damaged(rng, file), 0
 
 
-# what the papers themselves say: documents 01 and, of P3, 02
+# what the papers themselves say: document 01 and, of P3, 02
 SAID = {'P1': 0, 'P2': VIOLATED + 2, 'P3': 0, 'P7': VIOLATED + 2}
 # and the office's story
-SAID |= {'swallowed': VIOLATED + 13, 'mended': 0, 'withdrawn': VIOLATED + 51, 'retried': VIOLATED + 13}
+SAID |= {'swallowed': VIOLATED + 13, 'mended': 0, 'withdrawn': VIOLATED + 51, 'retried': VIOLATED + 13, 'restored': VIOLATED + 83}
+# and the plans that undos of undos are tried on, of which action 0 is done in every run
+SAID |= {f'Q{n}': 0 for n in range(1, 6)}
 
 
 def verdict_vectors(model, of_document, edges):

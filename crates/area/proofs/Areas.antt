@@ -14,7 +14,7 @@ use lib.Seq.{getD-set-same, getD-set-other, ext-getD}
 use Rattle.family.proofs.Numbers.{below-or-above}
 use Rattle.summary.specs.declared.Summary.{Summary}
 use Rattle.summary.specs.Summary.{familyOf}
-use Rattle.area.specs.Area.{wordAt, wordsAt, summaryAt, fits, loaded, Kept, WordWritten, Written, Stored, StoreAnswer, LoadAfterStore}
+use Rattle.area.specs.Area.{summarySize, codeAt, wordAt, wordsAt, summaryAt, fits, loaded, Kept, WordWritten, Written, Stored, StoreAnswer, LoadAfterStore}
 
 -- the eight bytes of a word make it
 level : (q next b rest : ℕ) → b ≡ q % 256 → next ≡ q / 256 → rest ≡ next → b + 256 * rest ≡ q
@@ -73,15 +73,15 @@ words-same (suc n) old new at same =
     let rest = words-same n old new (at + 8) (λ k a b. same k (omega arith) (omega arith)) in
     cc
 
-module _ (old new : List ℕ) (at : ℕ) (same : Same old new at 768) where
-  part-same : (d : ℕ) → d + 128 ≤ 768 → wordsAt 16 new (at + d) ≡ wordsAt 16 old (at + d)
+module _ (old new : List ℕ) (at : ℕ) (same : Same old new at summarySize) where
+  part-same : (d : ℕ) → d + 128 ≤ summarySize → wordsAt 16 new (at + d) ≡ wordsAt 16 old (at + d)
   part-same d l = words-same 16 old new (at + d) (λ k a b. same k (omega arith) (omega arith))
 
   summary-same : summaryAt new at ≡ summaryAt old at
   summary-same =
       let e : at + 0 ≡ at = omega arith in
       let first = rw e at (part-same 0 (omega arith)) in
-      λ t. record { s1 = first t; s2 = part-same 128 (omega arith) t; s3 = part-same 256 (omega arith) t; s4 = part-same 384 (omega arith) t; s5 = part-same 512 (omega arith) t; s6 = part-same 640 (omega arith) t }
+      λ t. record { s1 = first t; s2 = part-same 128 (omega arith) t; s3 = part-same 256 (omega arith) t; s4 = part-same 384 (omega arith) t; s6 = part-same 512 (omega arith) t; s7 = part-same 640 (omega arith) t; s9 = part-same 768 (omega arith) t; s10 = part-same 896 (omega arith) t; s11 = part-same 1024 (omega arith) t; s13 = part-same 1152 (omega arith) t; s14 = part-same 1280 (omega arith) t }
 
 -- byte k of a word
 abbrev byteOf : ℕ → ℕ → ℕ
@@ -137,35 +137,35 @@ module _ (old : List ℕ) (at : ℕ) (f : List ℕ) where
 -- the families of the first k codes are written, each after the other
 pub record Storing (old : List ℕ) (at : ℕ) (s : Summary) (k : ℕ) (new : List ℕ) : Type 0 where
   pub long : length new ≡ length old
-  pub here : (j : ℕ) → j < k → wordsAt 16 new (at + 128 * j) ≡ familyOf s (j + 1)
-  pub kept : Kept old at 768 new
+  pub here : (j : ℕ) → j < k → wordsAt 16 new (at + 128 * j) ≡ familyOf s (codeAt j)
+  pub kept : Kept old at summarySize new
 
 module _ (old : List ℕ) (at : ℕ) (s : Summary) where
   pub storing-none : Storing old at s 0 old
   storing-none = record { long = refl; here = λ j l. absurd (omega arith); kept = λ k out. refl }
 
-  pub storing-more : (k : ℕ) (now new : List ℕ) → k < 6 → Storing old at s k now → Written now (at + 128 * k) (familyOf s (k + 1)) new → Storing old at s (k + 1) new
+  pub storing-more : (k : ℕ) (now new : List ℕ) → k < 11 → Storing old at s k now → Written now (at + 128 * k) (familyOf s (codeAt k)) new → Storing old at s (k + 1) new
   storing-more k now new l p w = record {
     long = w .long ∙ p .long;
-    here = below-more (λ j. wordsAt 16 new (at + 128 * j) ≡ familyOf s (j + 1)) k (λ j h. words-same 16 now new (at + 128 * j) (λ i a b. w .kept i (inl (omega arith))) ∙ p .here j h) (w .here);
+    here = below-more (λ j. wordsAt 16 new (at + 128 * j) ≡ familyOf s (codeAt j)) k (λ j h. words-same 16 now new (at + 128 * j) (λ i a b. w .kept i (inl (omega arith))) ∙ p .here j h) (w .here);
     kept = λ j out. w .kept j (elim out [ inl a ↦ inl (omega arith) | inr a ↦ inr (omega arith) ]) ∙ p .kept j out;
   }
 
-  pub stored : (new : List ℕ) → Storing old at s 6 new → Stored old at s new
+  pub stored : (new : List ℕ) → Storing old at s 11 new → Stored old at s new
   stored new p = record {
     long = p .long;
     here = let e : at + 0 ≡ at = omega arith in
         let first = rw e at (p .here 0 (omega arith)) in
-        λ t. record { s1 = first t; s2 = p .here 1 (omega arith) t; s3 = p .here 2 (omega arith) t; s4 = p .here 3 (omega arith) t; s5 = p .here 4 (omega arith) t; s6 = p .here 5 (omega arith) t };
+        λ t. record { s1 = first t; s2 = p .here 1 (omega arith) t; s3 = p .here 2 (omega arith) t; s4 = p .here 3 (omega arith) t; s6 = p .here 4 (omega arith) t; s7 = p .here 5 (omega arith) t; s9 = p .here 6 (omega arith) t; s10 = p .here 7 (omega arith) t; s11 = p .here 8 (omega arith) t; s13 = p .here 9 (omega arith) t; s14 = p .here 10 (omega arith) t };
     kept = p .kept;
   }
 
 -- the code's test for room
-pub no-room : (bytes : List ℕ) (i : ℕ) → length bytes / 768 ≤ i → fits bytes i ≡ false
-no-room bytes i h = lt-leb (768 * i + 768) (length bytes) (omega arith)
+pub no-room : (bytes : List ℕ) (i : ℕ) → length bytes / summarySize ≤ i → fits bytes i ≡ false
+no-room bytes i h = lt-leb (summarySize * i + summarySize) (length bytes) (omega arith)
 
-pub room : (bytes : List ℕ) (i : ℕ) → i < length bytes / 768 → fits bytes i ≡ true
-room bytes i h = le-leb (768 * i + 768) (length bytes) (omega arith)
+pub room : (bytes : List ℕ) (i : ℕ) → i < length bytes / summarySize → fits bytes i ≡ true
+room bytes i h = le-leb (summarySize * i + summarySize) (length bytes) (omega arith)
 
 -- loading after a store
 module _ (old : List ℕ) (i : ℕ) (s : Summary) (new : List ℕ) where
@@ -177,7 +177,7 @@ module _ (old : List ℕ) (i : ℕ) (s : Summary) (new : List ℕ) where
   others : (answer : Bool) → StoreAnswer old i s new answer → (j : ℕ) → ¬ (j ≡ i) → loaded new j ≡ loaded old j
   others true a j d =
       let w = a .stored refl in
-      let outside = summary-same old new (768 * j) (λ k l h. w .kept k (elim (below-or-above k (768 * i)) [ inl b ↦ inl b | inr b ↦ inr (omega arith) ])) in
+      let outside = summary-same old new (summarySize * j) (λ k l h. w .kept k (elim (below-or-above k (summarySize * i)) [ inl b ↦ inl b | inr b ↦ inr (omega arith) ])) in
       cc (w .long)
   others false a j d = ap (λ bytes. loaded bytes j) (a .unchanged refl)
 

@@ -1,13 +1,14 @@
--- Summaries in a lent area of bytes: the summary of node i lies in 768 bytes from 768 * i on, code after code, sixteen little-endian
--- words for each.
+-- Summaries in a lent area of bytes: the one at place i lies in 1,408 bytes from 1,408 * i on, code after code, sixteen little-endian words for each of the eleven codes
+-- that have sets.
 use mathlib.Core.Path.{_≡_}
 use mathlib.Core.Bool.{Bool, true, false, cond}
 use mathlib.Core.Logic.{_⊎_}
 use mathlib.Core.List.{List, [], _∷_}
 use Prim.Native.Nat.{ℕ, zero, suc, _+_, _*_, _<_, _≤_}
 use lib.Dec.{leb}
-use lib.ListN.{getD, length, replicate}
+use lib.ListN.{getD, length}
 use Rattle.summary.specs.declared.Summary.{Summary}
+use Rattle.summary.specs.Summary.{noSets}
 
 -- "Numbers are little-endian": the word of the eight bytes at `at`.
 abbrev pub wordAt : List ℕ → ℕ → ℕ
@@ -19,6 +20,14 @@ unfoldable pub wordsAt : ℕ → List ℕ → ℕ → List ℕ
 wordsAt zero bytes at = []
 wordsAt (suc n) bytes at = wordAt bytes at ∷ wordsAt n bytes (at + 8)
 
+-- The bytes of a summary.
+abbrev pub summarySize : ℕ
+summarySize = 1408
+
+-- The codes whose families lie there, in this order.
+abbrev pub codeAt : ℕ → ℕ
+codeAt k = getD (1 ∷ 2 ∷ 3 ∷ 4 ∷ 6 ∷ 7 ∷ 9 ∷ 10 ∷ 11 ∷ 13 ∷ 14 ∷ []) k 0
+
 -- The summary whose first byte is at `at`.
 abbrev pub summaryAt : List ℕ → ℕ → Summary
 summaryAt bytes at = record {
@@ -26,19 +35,38 @@ summaryAt bytes at = record {
   s2 = wordsAt 16 bytes (at + 128);
   s3 = wordsAt 16 bytes (at + 256);
   s4 = wordsAt 16 bytes (at + 384);
-  s5 = wordsAt 16 bytes (at + 512);
-  s6 = wordsAt 16 bytes (at + 640);
+  s6 = wordsAt 16 bytes (at + 512);
+  s7 = wordsAt 16 bytes (at + 640);
+  s9 = wordsAt 16 bytes (at + 768);
+  s10 = wordsAt 16 bytes (at + 896);
+  s11 = wordsAt 16 bytes (at + 1024);
+  s13 = wordsAt 16 bytes (at + 1152);
+  s14 = wordsAt 16 bytes (at + 1280);
 }
 
--- The bytes of node i's summary lie in the area.
+-- The bytes of the summary at place i lie in the area.
 abbrev pub fits : List ℕ → ℕ → Bool
-fits bytes i = leb (768 * i + 768) (length bytes)
+fits bytes i = leb (summarySize * i + summarySize) (length bytes)
 
--- Node i's summary; the one with no sets where its bytes do not lie in the area.
+-- The one without sets.
+abbrev pub noSummary : Summary
+noSummary = record {
+  s1 = noSets;
+  s2 = noSets;
+  s3 = noSets;
+  s4 = noSets;
+  s6 = noSets;
+  s7 = noSets;
+  s9 = noSets;
+  s10 = noSets;
+  s11 = noSets;
+  s13 = noSets;
+  s14 = noSets;
+}
+
+-- The summary at place i; the one without sets where its bytes do not lie in the area.
 abbrev pub loaded : List ℕ → ℕ → Summary
-loaded bytes i =
-    cond (fits bytes i) (summaryAt bytes (768 * i))
-    (record { s1 = replicate 16 0; s2 = replicate 16 0; s3 = replicate 16 0; s4 = replicate 16 0; s5 = replicate 16 0; s6 = replicate 16 0 })
+loaded bytes i = cond (fits bytes i) (summaryAt bytes (summarySize * i)) noSummary
 
 -- Outside the n bytes from `at` on the area stays as it was.
 abbrev pub Kept : List ℕ → ℕ → ℕ → List ℕ → Type 0
@@ -60,15 +88,15 @@ pub record Written (old : List ℕ) (at : ℕ) (f new : List ℕ) : Type 0 where
 pub record Stored (old : List ℕ) (at : ℕ) (s : Summary) (new : List ℕ) : Type 0 where
   pub long : length new ≡ length old
   pub here : summaryAt new at ≡ s
-  pub kept : Kept old at 768 new
+  pub kept : Kept old at summarySize new
 
--- What a store of node i's summary answers: whether the area has room for it; and if not, nothing is written.
+-- What a store at place i answers: whether the area has room for it; and if not, nothing is written.
 pub record StoreAnswer (old : List ℕ) (i : ℕ) (s : Summary) (new : List ℕ) (answer : Bool) : Type 0 where
   pub room : answer ≡ fits old i
-  pub stored : answer ≡ true → Stored old (768 * i) s new
+  pub stored : answer ≡ true → Stored old (summarySize * i) s new
   pub unchanged : answer ≡ false → new ≡ old
 
--- What follows of loading: the summary that was stored comes back, and the other nodes' are as they were.
+-- What follows of loading: the summary that was stored comes back, and those at other places are as they were.
 pub record LoadAfterStore : Type 0 where
   pub back : (old : List ℕ) (i : ℕ) (s : Summary) (new : List ℕ) → StoreAnswer old i s new true → loaded new i ≡ s
   pub others : (old : List ℕ) (i : ℕ) (s : Summary) (new : List ℕ) (answer : Bool) → StoreAnswer old i s new answer → (j : ℕ) → ¬ (j ≡ i) → loaded new j ≡ loaded old j

@@ -1,9 +1,14 @@
-// Summaries in a lent area of bytes: node i's from byte 768 * i on, code after code, little-endian words.
+// Summaries in a lent area of bytes: the one at place i from byte 1,408 * i on, code after code, little-endian words.
 ghost use mathlib.Core.Path.{_≡_};
 ghost use Prim.Native.Nat.{_+_, _≤_, _<_};
 ghost use lib.ListN.{length};
-ghost use Rattle.area.specs.Area.{wordAt, wordsAt, loaded, WordWritten, Written, StoreAnswer};
+ghost use Rattle.area.specs.Area.{codeAt, wordAt, wordsAt, loaded, WordWritten, Written, StoreAnswer};
 use summary::Summary;
+
+// The bytes of a summary, and the codes whose families lie there, in this order.
+pub const SIZE: usize = 1408;
+
+const CODES: [u8; 11] = [1, 2, 3, 4, 6, 7, 9, 10, 11, 13, 14];
 
 fn wide(x: u8) -> u64
     ensures { λ r. ⌜ (r ≡ x) × (r < 256) ⌝ }
@@ -69,44 +74,63 @@ fn store_family(area: &mut [u8], at: usize, f: [u64; 16])
     }
 }
 
-// The summary of node i; one with no sets where the area has no room for it.
+// The summary at place i; one with no sets where the area has no room for it.
 pub fn load(area: &[u8], i: usize) -> Summary
     ensures { λ r. ⌜ r ≡ loaded (now (area .entry)) i ⌝ }
 {
-    if area.len() / 768 <= i {
+    if area.len() / SIZE <= i {
         let none = [0u64; 16];
         return Summary {
             s1: none,
             s2: none,
             s3: none,
             s4: none,
-            s5: none,
             s6: none,
+            s7: none,
+            s9: none,
+            s10: none,
+            s11: none,
+            s13: none,
+            s14: none,
         };
     }
-    let at = 768 * i;
+    let at = SIZE * i;
     Summary {
         s1: load_family(area, at),
         s2: load_family(area, at + 128),
         s3: load_family(area, at + 256),
         s4: load_family(area, at + 384),
-        s5: load_family(area, at + 512),
-        s6: load_family(area, at + 640),
+        s6: load_family(area, at + 512),
+        s7: load_family(area, at + 640),
+        s9: load_family(area, at + 768),
+        s10: load_family(area, at + 896),
+        s11: load_family(area, at + 1024),
+        s13: load_family(area, at + 1152),
+        s14: load_family(area, at + 1280),
     }
 }
 
-// Writes the summary of node i, and answers true. Where the area has no room for it, nothing is written, and the answer is false.
+// The code whose family lies at place k of a summary.
+fn code_at(k: usize) -> u8
+    requires { ⌜ k < 11 ⌝ }
+    ensures { λ r. ⌜ (r ≡ codeAt k) × (r < 15) ⌝ }
+{
+    let codes = CODES;
+    codes[k]
+}
+
+// Writes a summary at place i, and answers true. Where the area has no room for it, nothing is written, and the answer is false.
 pub fn store(area: &mut [u8], i: usize, s: Summary) -> bool
     ensures { λ r. ⌜ StoreAnswer (now (area .entry)) i s (now (area .exit)) r ⌝ }
 {
-    if area.len() / 768 <= i {
+    if area.len() / SIZE <= i {
         return false;
     }
-    let at = 768 * i;
-    let mut k = 0u8;
-    while k < 6 {
-        let f = summary::family_of(s, k + 1);
-        store_family(area, at + 128 * k as usize, f);
+    let at = SIZE * i;
+    let mut k = 0;
+    while k < 11 {
+        let f = summary::family_of(s, code_at(k));
+        store_family(area, at + 128 * k, f);
         k += 1;
     }
     true

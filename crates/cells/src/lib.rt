@@ -1,15 +1,15 @@
 // The cells of a process: where it stands after some entries of a run, from the cells of its sides alone. The specs of `runs` say what
-// they are; here two levels, forward and undo, which is what a plan file needs. Undos with a compensation in them need a third level.
+// they are; here three levels, forward, undo and the undo of the undo, which is what a plan file needs.
 use runs::Cell;
 use runs::Cells;
 use runs::Composite;
 use runs::Ended;
 use runs::Told;
 ghost use mathlib.Core.Path.{_≡_};
-ghost use mathlib.Core.Bool.{true, false};
+ghost use mathlib.Core.Bool.{true, false, cond};
 ghost use Prim.Native.Nat.{_<_};
-ghost use Rattle.runs.specs.Cells.{isSucceeded, isFailed, given, leafCell, nodeBegun, nodeEnded, leftMay, rightMay, nodeCell, joinCell, thenUndo, leftNext};
-ghost use Rattle.runs.specs.TwoLevels.{nothing, compositeForm, leafTwo, formTwo, nodeTwo, toldTwo};
+ghost use Rattle.runs.specs.Cells.{isSucceeded, isFailed, given, leafCell, nodeBegun, nodeEnded, leftMay, rightMay, nodeCell, joinCell, thenUndo};
+ghost use Rattle.runs.specs.ThreeLevels.{nothing, compositeForm, leafThree, formThree, nodeThree, toldThree};
 ghost use Rattle.process.specs.Forms.{formOf};
 
 fn given(test: bool, leaves: u64) -> u64
@@ -143,49 +143,83 @@ fn then_undo(x: Ended, undone: Ended) -> Ended
     }
 }
 
-// How the whole process, run with its undo, has ended, and what may come next in it.
+// How the whole process, run with its undo and that with its own, has ended, and what may come next in it.
 pub fn tell(a: Cells) -> Told
-    ensures { λ r. ⌜ r ≡ toldTwo a ⌝ }
+    ensures { λ r. ⌜ r ≡ toldThree a ⌝ }
 {
     let forward = a.forward;
     let undo = a.undo;
+    let again = a.again;
     let ended = forward.ended;
     let undone = undo.ended;
+    let last = again.ended;
     let first = given(!undo.begun, forward.next);
-    let then = given(is_failed(ended), undo.next);
+    let second = given(!again.begun, undo.next);
+    let third = given(is_failed(undone), again.next);
+    let later = given(is_failed(ended), second | third);
     Told {
-        ended: then_undo(ended, undone),
-        next: first | then,
+        ended: then_undo(ended, then_undo(undone, last)),
+        next: first | later,
     }
 }
 
-fn left_next(form: Composite, x_next: u64, x_whole: u64) -> u64
-    ensures { λ r. ⌜ r ≡ leftNext (compositeForm form) «x_next» «x_whole» ⌝ }
+// Going forward. The left side of a handler runs with its undo.
+fn node_forward(form: Composite, a: Cells, b: Cells) -> Cell
+    ensures { λ r. ⌜ r ≡ formThree (compositeForm form) a b .forward ⌝ }
 {
+    let x = a.forward;
+    let y = b.forward;
     match form {
-        Composite::Sequence => x_next,
-        Composite::Parallel => x_next,
-        Composite::Choice => x_next,
-        Composite::Compensation => x_next,
-        Composite::Handler => x_whole,
+        Composite::Sequence => node_cell(Composite::Sequence, x, y, x.next, false),
+        Composite::Parallel => node_cell(Composite::Parallel, x, y, x.next, false),
+        Composite::Choice => node_cell(Composite::Choice, x, y, x.next, false),
+        Composite::Compensation => node_cell(Composite::Compensation, x, y, x.next, false),
+        Composite::Handler => {
+            let whole = tell(a);
+            let ended = whole.ended;
+            node_cell(Composite::Handler, x, y, whole.next, is_failed(ended))
+        }
     }
 }
 
+// By whether the left side has succeeded.
+fn by_left(left: Ended, succeeded: Cell, otherwise: Cell) -> Cell
+    ensures { λ r. ⌜ r ≡ cond (isSucceeded left) succeeded otherwise ⌝ }
+{
+    if is_succeeded(left) {
+        succeeded
+    } else {
+        otherwise
+    }
+}
+
+// The undo. A compensation that succeeded is undone by its right side.
 fn node_undo(form: Composite, a: Cells, b: Cells) -> Cell
-    ensures { λ r. ⌜ r ≡ formTwo (compositeForm form) a b .undo ⌝ }
+    ensures { λ r. ⌜ r ≡ formThree (compositeForm form) a b .undo ⌝ }
 {
     let left = a.forward;
-    let left_undo = a.undo;
-    let right = b.forward;
-    let right_undo = b.undo;
     let ended = left.ended;
-    let succeeded = is_succeeded(ended);
     match form {
-        Composite::Sequence => join_cell(Composite::Sequence, right_undo, left_undo),
-        Composite::Parallel => join_cell(Composite::Parallel, left_undo, right_undo),
-        Composite::Choice => join_cell(Composite::Sequence, right_undo, left_undo),
-        Composite::Compensation => { if succeeded { right } else { left_undo } }
-        Composite::Handler => { if succeeded { left_undo } else { right_undo } }
+        Composite::Sequence => join_cell(Composite::Sequence, b.undo, a.undo),
+        Composite::Parallel => join_cell(Composite::Parallel, a.undo, b.undo),
+        Composite::Choice => join_cell(Composite::Sequence, b.undo, a.undo),
+        Composite::Compensation => by_left(ended, b.forward, a.undo),
+        Composite::Handler => by_left(ended, a.undo, b.undo),
+    }
+}
+
+// The undo of the undo: of a sequence, in the first order again.
+fn node_again(form: Composite, a: Cells, b: Cells) -> Cell
+    ensures { λ r. ⌜ r ≡ formThree (compositeForm form) a b .again ⌝ }
+{
+    let left = a.forward;
+    let ended = left.ended;
+    match form {
+        Composite::Sequence => join_cell(Composite::Sequence, a.again, b.again),
+        Composite::Parallel => join_cell(Composite::Parallel, a.again, b.again),
+        Composite::Choice => join_cell(Composite::Sequence, a.again, b.again),
+        Composite::Compensation => by_left(ended, b.undo, a.again),
+        Composite::Handler => by_left(ended, a.again, b.again),
     }
 }
 
@@ -203,17 +237,13 @@ fn form_of(number: u8) -> Composite
 
 // A node of a plan by the number of its form, 3 to 7, from the cells of its sides. Any other number is taken for a handler's.
 pub fn node_cells(number: u8, a: Cells, b: Cells) -> Cells
-    ensures { λ r. ⌜ r ≡ nodeTwo number a b ⌝ }
+    ensures { λ r. ⌜ r ≡ nodeThree number a b ⌝ }
 {
     let form = form_of(number);
-    let whole = tell(a);
-    let ended = whole.ended;
-    let x = a.forward;
-    let y = b.forward;
-    let next = left_next(form, x.next, whole.next);
     Cells {
-        forward: node_cell(form, x, y, next, is_failed(ended)),
+        forward: node_forward(form, a, b),
         undo: node_undo(form, a, b),
+        again: node_again(form, a, b),
     }
 }
 
@@ -230,6 +260,7 @@ pub fn nothing() -> Cells
     Cells {
         forward: none,
         undo: none,
+        again: none,
     }
 }
 
@@ -264,15 +295,17 @@ fn leaf_cell(n: usize, outcome: Ended) -> Cell
 
 // A leaf by its node number and its outcome. Where the number is not below 64, as every node's of a plan is: nothing to run.
 pub fn leaf_cells(n: usize, outcome: Ended) -> Cells
-    ensures { λ r. ⌜ r ≡ leafTwo n outcome ⌝ }
+    ensures { λ r. ⌜ r ≡ leafThree n outcome ⌝ }
 {
     let none = nothing();
     if 64 <= n {
         return none;
     }
     let undo = none.undo;
+    let again = none.again;
     Cells {
         forward: leaf_cell(n, outcome),
         undo,
+        again,
     }
 }

@@ -29,4 +29,10 @@ fn main() {
     plan(b"broken.plan");
     plan(b"withdrawn.plan");
     plan(b"retried.plan");
+    plan(b"q1.plan");
+    plan(b"q2.plan");
+    plan(b"q3.plan");
+    plan(b"q4.plan");
+    plan(b"q5.plan");
+    plan(b"restored.plan");
 }

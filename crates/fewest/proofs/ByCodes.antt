@@ -1,89 +1,94 @@
--- The fold over a process: under each code the least failed entries of the levels with the code that meet the wishes, and so of its complete runs. By the
--- outcome chart: a cell makes the levels of a node from those of its sides, and the levels of a node have such a cell.
+-- The fold over a process: under each settled code the least failed entries of the levels with the code that meet the wishes, and so of its complete runs. By the
+-- chart of three levels: a cell makes the levels of a node from those of its sides, and the levels of a node have such a cell, whose sides are settled where it is.
 use mathlib.Core.Path.{_≡_, refl, sym, _∙_, ap, ap₂}
-use mathlib.Core.Bool.{true}
+use mathlib.Core.Bool.{Bool, true, false, not, cond}
 use mathlib.Core.List.{List}
 use mathlib.Core.Logic.{_⊎_, inl, inr}
-use Prim.Native.Nat.{ℕ, zero, suc, _+_, _≤_, _<_, min}
+use Prim.Native.Nat.{ℕ, _+_, _≤_, _<_, min}
 use native.Mathlib.Omega.{arith}
+use borrow.Author.Tests.{not-true}
 use lib.ListN.{take}
 use Rattle.process.specs.Process.{Status, Form, Process, done, leaf, node, Run}
 use Rattle.process.specs.Forms.{formNumber}
 use Rattle.process.specs.Leaves.{AsWritten, Distinct, Apart}
 use Rattle.reorder.specs.Entries.{failures}
-use Rattle.outcomes.specs.Codes.{Code, number, Final, final-1, final-5, final-6}
-use Rattle.outcomes.specs.Cells.{cell}
+use Rattle.outcomes.specs.Codes.{Code, number}
+use Rattle.outcomes.specs.Joins.{codeOf}
+use Rattle.outcomes.specs.LevelCells.{cellAt}
+use Rattle.outcomes.specs.ThreeLevels.{unsettled, cell3, Final3, final-1, final-9, final-13, final-14}
 use Rattle.outcomes.proofs.Levels.{Levels, whole, levels-of, parts, split, joined-interleaves}
-use Rattle.outcomes.proofs.Depth.{levels, left-levels, right-levels, cut-levels, cut-whole}
-use Rattle.outcomes.proofs.Numbers.{codeOf, number-small, code-of-number}
-use Rattle.outcomes.proofs.TwoLevels.{node-levels, final-run, cell-of-levels}
-use Rattle.outcomes.proofs.Families.{two-levels, final-number}
+use Rattle.outcomes.proofs.Depth.{levels, levels-depth, left-levels, right-levels, cut-levels, cut-whole}
+use Rattle.outcomes.proofs.Numbers.{number-small, code-of-number, number-of-code}
+use Rattle.outcomes.proofs.Nodes.{node-levels, final-run, cell-of-levels}
+use Rattle.outcomes.proofs.ThreeLevels.{closed-sides, cell-of-form, final-number, final-code}
 use Rattle.fewest.specs.Wishes.{Wish, Meets, Possible}
 use Rattle.fewest.specs.Costs.{unreached, costOf, costsOf}
 use Rattle.fewest.specs.Least.{LeastBelow}
 use Rattle.fewest.specs.Fewest.{FewestLeast}
 use Rattle.fewest.proofs.Least.{least-as, least-either}
 use Rattle.fewest.proofs.Sides.{interleaved-failures, levels-of-leaves, meets-both, meets-left, meets-right}
-use Rattle.fewest.proofs.LeafCosts.{Can, leaf-least}
+use Rattle.fewest.proofs.LeafCosts.{Can, Counted, leaf-counted}
 use Rattle.fewest.proofs.NodeCosts.{Told, Rows, node-told}
 
-number-of-code : (c : ℕ) → c < 7 → number 2 (codeOf 2 c) ≡ c
-number-of-code zero h = refl
-number-of-code (suc zero) h = refl
-number-of-code (suc (suc zero)) h = refl
-number-of-code (suc (suc (suc zero))) h = refl
-number-of-code (suc (suc (suc (suc zero)))) h = refl
-number-of-code (suc (suc (suc (suc (suc zero))))) h = refl
-number-of-code (suc (suc (suc (suc (suc (suc zero)))))) h = refl
-number-of-code (suc (suc (suc (suc (suc (suc (suc c))))))) h = absurd (omega arith)
+-- a code that the table gives is settled, and that of the chart
+settled-cell : (f : Form) (l r c : ℕ) → l < 15 → r < 15 → cell3 (formNumber f) l r ≡ c → c < 15 → (cellAt 2 f l r ≡ c) × (not (unsettled c) ≡ true)
+settled-cell f l r c hl hr e h = go (unsettled (cellAt 2 f l r)) refl (sym (cell-of-form f l r hl hr) ∙ e)
+  where
+    go : (b : Bool) → unsettled (cellAt 2 f l r) ≡ b → cond b 15 (cellAt 2 f l r) ≡ c → (cellAt 2 f l r ≡ c) × (not (unsettled c) ≡ true)
+    go true u z = absurd (omega arith)
+    go false u z = (z, rw (← z, u))
+
+cell-settled : (f : Form) (l r c : ℕ) → l < 15 → r < 15 → cellAt 2 f l r ≡ c → not (unsettled c) ≡ true → cell3 (formNumber f) l r ≡ c
+cell-settled f l r c hl hr e u = cell-of-form f l r hl hr ∙ rw (e, not-true (unsettled c) u)
 
 module _ (may : ℕ → Wish) where
-  -- by the code's number
-  abbrev Coded : Process → ℕ → ℕ → Type 0
-  Coded P c k = Can may P (codeOf 2 c) k
-
   -- levels under the number of their code
-  numbered : (P : Process) {c : Code} {rs : List Run} → levels P ≤ 2 → Levels P c rs → Meets may P (whole rs) → Coded P (number 2 c) (failures (whole rs))
-  numbered P {c} {rs} h l a =
-      let x = cut-whole 2 h l in
-      record { runs = take 2 rs; by = rw (code-of-number 2 c) (cut-levels 2 l); meets = rw x a; fails = rw x }
+  numbered : (P : Process) {c : Code} {rs : List Run} → levels P ≤ 3 → not (unsettled (number 3 c)) ≡ true → Levels P c rs → Meets may P (whole rs) → Counted may P (number 3 c) (failures (whole rs))
+  numbered P {c} {rs} h u l a =
+      let x = cut-whole 3 h l in
+      record { settled = u; can = record { runs = take 3 rs; by = rw (code-of-number 3 c) (cut-levels 3 l); meets = rw x a; fails = rw x } }
 
-  module _ (f : Form) (P Q : Process) (d : Apart P Q) (h : levels (node f P Q) ≤ 2) (c : ℕ) (low : c < 7) where
+  module _ (f : Form) (P Q : Process) (d : Apart P Q) (h : levels (node f P Q) ≤ 3) (c : ℕ) (low : c < 15) where
     abbrev Pairs : ℕ → Type 0
-    Pairs m = Rows (Coded P) (Coded Q) (cell (formNumber f)) 7 c m
+    Pairs m = Rows (Counted may P) (Counted may Q) (cell3 (formNumber f)) 15 c m
 
-    make : (m : ℕ) → Pairs m → Coded (node f P Q) c m
+    make : (m : ℕ) → Pairs m → Counted may (node f P Q) c m
     make m p =
         let q = p .member in
         let s = q .member .sum in
-        let a = s .has-first in
-        let b = s .has-second in
-        let n = node-levels f (p .at) (q .at) h (p .low) (q .low) (q .member .is) low (a .by) (b .by) in
+        let a = s .has-first .can in
+        let b = s .has-second .can in
+        let (z, u) = settled-cell f (p .at) (q .at) c (p .low) (q .low) (q .member .is) low in
+        let n = node-levels 2 f (p .at) (q .at) h z low (a .by) (b .by) in
         let i = joined-interleaves f true (a .runs) (b .runs) in
         let y = n .same-run in
-        record { runs = _; by = n .made; meets = rw y (meets-both i (a .meets) (b .meets)); fails = rw y (interleaved-failures i ∙ ap₂ _+_ (a .fails) (b .fails) ∙ s .adds) }
+        record {
+          settled = u;
+          can = record { runs = _; by = n .made; meets = rw y (meets-both i (a .meets) (b .meets)); fails = rw y (interleaved-failures i ∙ ap₂ _+_ (a .fails) (b .fails) ∙ s .adds) };
+        }
 
-    part : (m : ℕ) {e : Code} {rs : List Run} → number 2 e ≡ c → Levels (node f P Q) e rs → Meets may (node f P Q) (whole rs) → failures (whole rs) ≡ m → Pairs m
-    part m {e} z l a y =
+    part : (m : ℕ) {e : Code} {rs : List Run} → not (unsettled c) ≡ true → number 3 e ≡ c → Levels (node f P Q) e rs → Meets may (node f P Q) (whole rs) → failures (whole rs) ≡ m → Pairs m
+    part m {e} t z l a y =
         elim (split l) [
           | parts {a = u} {ps = ps} g k j i ↦
-              let s = cell-of-levels f P h j k in
+              let s = cell-of-levels 2 f P h j k in
               let i′ = rw (sym (s .right-run)) at i in
               let x = meets-left i′ d (levels-of-leaves (s .right)) a in
               let w = meets-right i′ d (levels-of-leaves g) a in
+              let (v, v′) = closed-sides f (number 3 u) (number 3 (s .code)) c (number-small 3 u) (number-small 3 (s .code)) t (s .has-cell ∙ z) low in
               record {
-                at = number 2 u;
-                low = number-small 2 u;
+                at = number 3 u;
+                low = number-small 3 u;
                 member = record {
-                  at = number 2 (s .code);
-                  low = number-small 2 (s .code);
+                  at = number 3 (s .code);
+                  low = number-small 3 (s .code);
                   member = record {
-                    is = s .has-cell ∙ z;
+                    is = cell-settled f (number 3 u) (number 3 (s .code)) c (number-small 3 u) (number-small 3 (s .code)) (s .has-cell ∙ z) t;
                     sum = record {
                       first = failures (whole ps);
                       second = failures (whole (s .runs));
-                      has-first = numbered P (left-levels f P Q h) g x;
-                      has-second = numbered Q (right-levels f P Q h) (s .right) w;
+                      has-first = numbered P (left-levels f P Q h) v g x;
+                      has-second = numbered Q (right-levels f P Q h) v′ (s .right) w;
                       adds = sym (interleaved-failures i′) ∙ y;
                     };
                   };
@@ -91,43 +96,48 @@ module _ (may : ℕ → Wish) where
               }
         ]
 
-  costs-told : (P : Process) → AsWritten P → Distinct P → levels P ≤ 2 → Told (Coded P) (costsOf may P)
+  costs-told : (P : Process) → AsWritten P → Distinct P → levels P ≤ 3 → Told (Counted may P) (costsOf may P)
   costs-told done w d h = absurd w
-  costs-told (leaf n k) w d h = record { seven = refl; each = leaf-least may n k }
+  costs-told (leaf n k) w d h = record { fifteen = refl; each = leaf-counted may n k }
   costs-told (node f P Q) w d h =
-      let t = node-told (cell (formNumber f)) (costs-told P (w .0) (d .0) (left-levels f P Q h)) (costs-told Q (w .1) (d .1) (right-levels f P Q h)) 7 (omega arith) in
+      let t = node-told (cell3 (formNumber f)) (costs-told P (w .0) (d .0) (left-levels f P Q h)) (costs-told Q (w .1) (d .1) (right-levels f P Q h)) 15 (omega arith) in
       record {
-        seven = t .seven;
-        each = λ c low. least-as (t .each c low) (make f P Q (d .2) h c low) (λ m a. part f P Q (d .2) h c low m (number-of-code c low) (a .by) (a .meets) (a .fails));
+        fifteen = t .fifteen;
+        each = λ c low. least-as (t .each c low) (make f P Q (d .2) h c low) (λ m a. part f P Q (d .2) h c low m (a .settled) (number-of-code 3 c low) (a .can .by) (a .can .meets) (a .can .fails));
       }
 
 -- the codes of complete runs
 pub fewest-least : FewestLeast
-fewest-least may P w d g = least-as (least-or 1 (omega arith) (least-or 5 (omega arith) (at 6 (omega arith)))) (λ k a. up k a) (λ k a. down k a)
+fewest-least may P w d g = least-as (least-or 1 (omega arith) (least-or 9 (omega arith) (least-or 13 (omega arith) (at 14 (omega arith))))) (λ k a. up k a) (λ k a. down k a)
   where
-    h : levels P ≤ 2
-    h = two-levels P g
+    h : levels P ≤ 3
+    h = omega (arith, levels-depth P)
 
-    at : (c : ℕ) → c < 7 → LeastBelow unreached (Coded may P c) (costOf (costsOf may P) c)
+    at : (c : ℕ) → c < 15 → LeastBelow unreached (Counted may P c) (costOf (costsOf may P) c)
     at c low = costs-told may P w d h .each c low
 
-    least-or : (c : ℕ) → c < 7 → {F : ℕ → Type 0} {x : ℕ} → LeastBelow unreached F x → LeastBelow unreached (λ k. Coded may P c k ⊎ F k) (min (costOf (costsOf may P) c) x)
+    least-or : (c : ℕ) → c < 15 → {F : ℕ → Type 0} {x : ℕ} → LeastBelow unreached F x → LeastBelow unreached (λ k. Counted may P c k ⊎ F k) (min (costOf (costsOf may P) c) x)
     least-or c low {x = x} a = least-either (costOf (costsOf may P) c) x (at c low .reached) (at c low .least) a
 
-    whole-run : {c : ℕ} {s : Status} (k : ℕ) → Final c s → Coded may P c k → Possible may P k
-    whole-run {s = s} k f a = (whole (a .runs), s, final-run h f (a .by), a .meets, a .fails)
+    Ended : ℕ → Type 0
+    Ended k = Counted may P 1 k ⊎ (Counted may P 9 k ⊎ (Counted may P 13 k ⊎ Counted may P 14 k))
 
-    up : (k : ℕ) → Coded may P 1 k ⊎ (Coded may P 5 k ⊎ Coded may P 6 k) → Possible may P k
-    up k (inl a) = whole-run k final-1 a
-    up k (inr (inl a)) = whole-run k final-5 a
-    up k (inr (inr a)) = whole-run k final-6 a
+    whole-run : {c : ℕ} {s : Status} (k : ℕ) → Final3 c s → Can may P (codeOf 3 c) k → Possible may P k
+    whole-run {s = s} k f a = let (e, x, z) = final-code f in (whole (a .runs), s, final-run 2 h x (rw (code-of-number 3 e) at (rw (sym z) at (a .by))), a .meets, a .fails)
 
-    sort : {c : ℕ} {s : Status} (k : ℕ) → Final c s → Coded may P c k → Coded may P 1 k ⊎ (Coded may P 5 k ⊎ Coded may P 6 k)
-    sort k final-1 a = inl a
-    sort k final-5 a = inr (inl a)
-    sort k final-6 a = inr (inr a)
+    up : (k : ℕ) → Ended k → Possible may P k
+    up k (inl a) = whole-run k final-1 (a .can)
+    up k (inr (inl a)) = whole-run k final-9 (a .can)
+    up k (inr (inr (inl a))) = whole-run k final-13 (a .can)
+    up k (inr (inr (inr a))) = whole-run k final-14 (a .can)
 
-    down : (k : ℕ) → Possible may P k → Coded may P 1 k ⊎ (Coded may P 5 k ⊎ Coded may P 6 k)
+    sort : {c : ℕ} {s : Status} (k : ℕ) → Final3 c s → (not (unsettled c) ≡ true → Counted may P c k) → Ended k
+    sort k final-1 a = inl (a refl)
+    sort k final-9 a = inr (inl (a refl))
+    sort k final-13 a = inr (inr (inl (a refl)))
+    sort k final-14 a = inr (inr (inr (a refl)))
+
+    down : (k : ℕ) → Possible may P k → Ended k
     down k (r, s, d, a, z) =
         let (c, rs, e, l, x) = levels-of d in
-        sort k (final-number e) (rw (ap failures x ∙ z) at (numbered may P h l (rw (sym x) at a)))
+        sort k (final-number e) (λ u. rw (ap failures x ∙ z) at (numbered may P h u l (rw (sym x) at a)))

@@ -10,6 +10,7 @@ pub mod Outcomes
 pub mod Pins
 pub mod Searching
 pub mod Below
+pub mod Rows
 pub mod Folded
 pub mod Stages
 pub mod Choosing

@@ -16,11 +16,11 @@ use Rattle.fewest.proofs.Least.{least-as, least-none, least-past, least
 
 -- under each code the least of its members
 pub record Told (H : ℕ → ℕ → Type 0) (z : Costs) : Type 0 where
-  pub seven : length (z .by) ≡ 7
-  pub each : (c : ℕ) → c < 7 → LeastBelow unreached (H c) (costOf z c)
+  pub fifteen : length (z .by) ≡ 15
+  pub each : (c : ℕ) → c < 15 → LeastBelow unreached (H c) (costOf z c)
 
 told-as : {H K : ℕ → ℕ → Type 0} {z : Costs} → Told H z → ((c m : ℕ) → H c m → K c m) → ((c m : ℕ) → K c m → H c m) → Told K z
-told-as h f g = record { seven = h .seven; each = λ c l. least-as (h .each c l) (f c) (g c) }
+told-as h f g = record { fifteen = h .fifteen; each = λ c l. least-as (h .each c l) (f c) (g c) }
 
 -- a sum under its cell's code
 pub record Celled (F G : ℕ → Type 0) (cell c m : ℕ) : Type 0 where
@@ -28,17 +28,17 @@ pub record Celled (F G : ℕ → Type 0) (cell c m : ℕ) : Type 0 where
   pub sum : Sum F G m
 
 none-told : {H : ℕ → ℕ → Type 0} → ((c m : ℕ) → ¬ H c m) → Told H noCosts
-none-told n = record { seven = refl; each = λ c l. rw (getD-replicate 7 c unreached 0 l) (least-none (n c)) }
+none-told n = record { fifteen = refl; each = λ c l. rw (getD-replicate 15 c unreached 0 l) (least-none (n c)) }
 
 -- one sum more
 module _ {F G : ℕ → Type 0} {H : ℕ → ℕ → Type 0} {z : Costs} (x y cell : ℕ) (hx : LeastBelow unreached F x) (hy : LeastBelow unreached G y) (h : Told H z) where
   abbrev More : ℕ → ℕ → Type 0
   More c m = Celled F G cell c m ⊎ H c m
 
-  other : (c : ℕ) → c < 7 → ¬ (cell ≡ c) → LeastBelow unreached (More c) (costOf z c)
+  other : (c : ℕ) → c < 15 → ¬ (cell ≡ c) → LeastBelow unreached (More c) (costOf z c)
   other c l d = least-past (h .each c l) (λ k a. absurd (d (a .is)))
 
-  same : cell < 7 → LeastBelow unreached (More cell) (min (x + y) (costOf z cell))
+  same : cell < 15 → LeastBelow unreached (More cell) (min (x + y) (costOf z cell))
   same l =
       least-either (x + y) (costOf z cell)
       (λ k. record { is = refl; sum = record { first = x; second = y; has-first = hx .reached (omega arith); has-second = hy .reached (omega arith); adds = refl } })
@@ -47,29 +47,29 @@ module _ {F G : ℕ → Type 0} {H : ℕ → ℕ → Type 0} {z : Costs} (x y ce
 
   sum-told : Told More (withSum cell (x + y) z)
   unfolding withSum
-  sum-told = go (ltb cell 7) refl
+  sum-told = go (ltb cell 15) refl
     where
       put : Costs
       put = record { by = set (z .by) cell (min (x + y) (costOf z cell)) }
 
-      at : cell < 7 → (c : ℕ) → c < 7 → (b : Bool) → eqb c cell ≡ b → LeastBelow unreached (More c) (costOf put c)
+      at : cell < 15 → (c : ℕ) → c < 15 → (b : Bool) → eqb c cell ≡ b → LeastBelow unreached (More c) (costOf put c)
       at k c l true e =
           let i : c ≡ cell = eqb-true c cell e in
-          rw (i, getD-set-same (z .by) cell (min (x + y) (costOf z cell)) 0 (omega (arith, h .seven))) (same k)
+          rw (i, getD-set-same (z .by) cell (min (x + y) (costOf z cell)) 0 (omega (arith, h .fifteen))) (same k)
       at k c l false e =
           let d = eqb-false c cell e in
           rw (getD-set-other (z .by) cell c (min (x + y) (costOf z cell)) 0 d) (other c l (λ i. d (sym i)))
 
-      go : (b : Bool) → ltb cell 7 ≡ b → Told More (cond b put z)
-      go true e = record { seven = length-set (z .by) cell _ ∙ h .seven; each = λ c l. at (ltb-true cell 7 e) c l (eqb c cell) refl }
-      go false e = record { seven = h .seven; each = λ c l. other c l (λ i. omega (arith, ltb-false cell 7 e)) }
+      go : (b : Bool) → ltb cell 15 ≡ b → Told More (cond b put z)
+      go true e = record { fifteen = length-set (z .by) cell _ ∙ h .fifteen; each = λ c l. at (ltb-true cell 15 e) c l (eqb c cell) refl }
+      go false e = record { fifteen = h .fifteen; each = λ c l. other c l (λ i. omega (arith, ltb-false cell 15 e)) }
 
 -- the cells of one left code, with the right codes below r
 module _ {F : ℕ → Type 0} {G H : ℕ → ℕ → Type 0} {y z : Costs} (cells : ℕ → ℕ) (x : ℕ) (hx : LeastBelow unreached F x) (hy : Told G y) (h : Told H z) where
   abbrev Gathered : ℕ → ℕ → ℕ → Type 0
   Gathered r c m = Below r (λ i. Celled F (G i) (cells i) c) m ⊎ H c m
 
-  row-told : (r : ℕ) → r ≤ 7 → Told (Gathered r) (rowCosts cells x y r z)
+  row-told : (r : ℕ) → r ≤ 15 → Told (Gathered r) (rowCosts cells x y r z)
   unfolding rowCosts
   row-told zero l = told-as h (λ c m a. inr a) (λ c m a. ⊎-elim (λ b. absurd (omega (arith, b .low))) (λ b. b) a)
   row-told (suc r) l =
@@ -86,13 +86,13 @@ module _ {F : ℕ → Type 0} {G H : ℕ → ℕ → Type 0} {y z : Costs} (cell
 
 -- all cells, with the left codes below l
 abbrev pub Row : (F : ℕ → Type 0) (G : ℕ → ℕ → Type 0) → (ℕ → ℕ) → ℕ → ℕ → Type 0
-Row F G cells c m = Below 7 (λ r. Celled F (G r) (cells r) c) m
+Row F G cells c m = Below 15 (λ r. Celled F (G r) (cells r) c) m
 
 abbrev pub Rows : (F G : ℕ → ℕ → Type 0) → (ℕ → ℕ → ℕ) → ℕ → ℕ → ℕ → Type 0
 Rows F G cells l c m = Below l (λ i. Row (F i) G (cells i) c) m
 
 module _ {F G : ℕ → ℕ → Type 0} {x y : Costs} (cells : ℕ → ℕ → ℕ) (hx : Told F x) (hy : Told G y) where
-  pub node-told : (l : ℕ) → l ≤ 7 → Told (Rows F G cells l) (nodeCosts cells x y l)
+  pub node-told : (l : ℕ) → l ≤ 15 → Told (Rows F G cells l) (nodeCosts cells x y l)
   unfolding nodeCosts
   node-told zero k = none-told (λ c m a. omega (arith, a .low))
   node-told (suc l) k = go (node-told l (omega arith)) (ltb (costOf x l) unreached) refl
@@ -101,6 +101,6 @@ module _ {F G : ℕ → ℕ → Type 0} {x y : Costs} (cells : ℕ → ℕ → �
       past e c m a = let s = a .member .sum in omega (arith, hx .each l (omega arith) .least (s .first) (s .has-first), s .adds)
 
       go : Told (Rows F G cells l) (nodeCosts cells x y l) → (b : Bool) → ltb (costOf x l) unreached ≡ b
-          → Told (Rows F G cells (suc l)) (cond b (rowCosts (cells l) (costOf x l) y 7 (nodeCosts cells x y l)) (nodeCosts cells x y l))
-      go h true e = told-as (row-told (cells l) (costOf x l) (hx .each l (omega arith)) hy h 7 (omega arith)) (λ c m a. below-more a) (λ c m a. below-less a)
-      go h false e = record { seven = h .seven; each = λ c low. least-as (least-past (h .each c low) (past (ltb-false (costOf x l) unreached e) c)) (λ m a. below-more a) (λ m a. below-less a) }
+          → Told (Rows F G cells (suc l)) (cond b (rowCosts (cells l) (costOf x l) y 15 (nodeCosts cells x y l)) (nodeCosts cells x y l))
+      go h true e = told-as (row-told (cells l) (costOf x l) (hx .each l (omega arith)) hy h 15 (omega arith)) (λ c m a. below-more a) (λ c m a. below-less a)
+      go h false e = record { fifteen = h .fifteen; each = λ c low. least-as (least-past (h .each c low) (past (ltb-false (costOf x l) unreached e) c)) (λ m a. below-more a) (λ m a. below-less a) }

@@ -7,7 +7,7 @@ use borrow.Author.Tests.{eq-eqb}
 use Rattle.process.specs.Process.{Status, ok, fail, Process, entry, Run}
 use Rattle.process.specs.Figure2.{Complete}
 use Rattle.process.specs.Leaves.{AsWritten, Distinct}
-use Rattle.process.specs.Depth.{Flat}
+use Rattle.process.specs.Depth.{mostUndos, Shallow}
 use Rattle.runs.specs.Beginnings.{occurrences}
 use Rattle.runs.proofs.Beginnings.{beginnings}
 use Rattle.reorder.specs.Entries.{Occurs, failures}
@@ -28,5 +28,5 @@ twice (entry m t ∷ r) (List·Memᴰ·head e) (List·Memᴰ·tail f) = omega (a
 twice (entry m t ∷ r) (List·Memᴰ·tail e) (List·Memᴰ·head f) = omega (arith, here r f, once r e)
 twice (entry m t ∷ r) (List·Memᴰ·tail e) (List·Memᴰ·tail f) = omega (arith, twice r e f)
 
-pub one-outcome : (P : Process) → AsWritten P → Distinct P → Flat P → {r : Run} {s : Status} → Complete P r s → (n : ℕ) → Occurs (entry n ok) r → Occurs (entry n fail) r → ⊥
-one-outcome P w d h {r} {s} c n a b = omega (arith, beginnings 1 P w d h .once r ([], s, rw (append-nil r) c) n, twice r a b)
+pub one-outcome : (P : Process) → AsWritten P → Distinct P → Shallow P → {r : Run} {s : Status} → Complete P r s → (n : ℕ) → Occurs (entry n ok) r → Occurs (entry n fail) r → ⊥
+one-outcome P w d h {r} {s} c n a b = omega (arith, beginnings mostUndos P w d h .once r ([], s, rw (append-nil r) c) n, twice r a b)

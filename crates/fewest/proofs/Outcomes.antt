@@ -61,7 +61,7 @@ module _ (types b : List ℕ) (tree : Drawn types b) (S : ℕ) (table : List ℕ
   has-meets c h w = record { entries = λ n s x. entries n s x (tree .leaves n .0 (complete-leaf c x)); others = λ n l. others n (outcomeAt table n) refl (tree .leaves n .0 l) }
     where
       one : (n : ℕ) → Occurs (entry n ok) r → Occurs (entry n fail) r → ⊥
-      one = one-outcome (processOf types b) (tree .written) (tree .distinct) (tree .flat) c
+      one = one-outcome (processOf types b) (tree .written) (tree .distinct) (tree .shallow) c
 
       entries : (n : ℕ) (s : Status) → Occurs (entry n s) r → (n < count b) × (form b n < 3) → wished (wishes b S table n) s ≡ true
       entries n ok x (l, p) = may-finish (welcome b S n) (outcomeAt table n) (w .each n x) (λ d e. one n x (h .failed n l p d e))

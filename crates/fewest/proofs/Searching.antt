@@ -154,7 +154,7 @@ module _ (types b : List ℕ) (plan : RunnableWithin mostSearched types b) (S : 
   searched-finishing : (m a : ℕ) (table : List ℕ) → length table ≡ 63 → LeastBelow unreached (Finishing m a table) (searched types b S m a table)
   unfolding searched
   searched-finishing zero a table size =
-      least-as (fewest-least (wishes b S table) (processOf types b) (tree .written) (tree .distinct) (tree .flat)) (none-left a table) (possible 0 a table)
+      least-as (fewest-least (wishes b S table) (processOf types b) (tree .written) (tree .distinct) (tree .shallow)) (none-left a table) (possible 0 a table)
   searched-finishing (suc m) a table size = go (searched-finishing m (suc a)) (due b S table a) refl
     where
       go : ((t : List ℕ) → length t ≡ 63 → LeastBelow unreached (Finishing m (suc a) t) (searched types b S m (suc a) t)) → (d : Bool) → due b S table a ≡ d
@@ -193,7 +193,7 @@ module _ (actions : ℕ) (types b : List ℕ) (S : ℕ) (s : Searchable actions 
 
   -- of the runs that have the outcomes of the table, the fold
   fold-least : (table : List ℕ) → LeastBelow unreached (Possible (wishes b S table) (processOf types b)) (fewestOf (wishes b S table) (processOf types b))
-  fold-least table = let x = drawn types b (s .plan) in fewest-least (wishes b S table) (processOf types b) (x .written) (x .distinct) (x .flat)
+  fold-least table = let x = drawn types b (s .plan) in fewest-least (wishes b S table) (processOf types b) (x .written) (x .distinct) (x .shallow)
 
   fold-low : (table : List ℕ) → length table ≡ 63 → (j : ℕ) → Leaving types b S table j → fewestOf (wishes b S table) (processOf types b) ≤ j
   fold-low table size j f = fold-least table .least j (possible types b (s .plan) S actions 0 table j (finished-all table j f))

@@ -6,7 +6,7 @@ use Prim.Native.Nat.{ℕ, _≤_, _<_}
 use lib.ListN.{length, set}
 use Rattle.process.specs.Process.{Process}
 use Rattle.process.specs.Leaves.{AsWritten, Distinct}
-use Rattle.process.specs.Depth.{Flat}
+use Rattle.process.specs.Depth.{Shallow}
 use Rattle.nodes.specs.Nodes.{count}
 use Rattle.plan.specs.Tree.{processOf}
 use Rattle.fewest.specs.Wishes.{Wish, Possible}
@@ -17,7 +17,7 @@ use Rattle.fewest.specs.Search.{wishes, due, candidate, leavesLeft, leas
 
 -- The fold: of the complete runs that meet wishes on the leaves.
 abbrev pub FewestLeast : Type 0
-FewestLeast = (may : ℕ → Wish) (P : Process) → AsWritten P → Distinct P → Flat P → LeastBelow unreached (Possible may P) (fewestOf may P)
+FewestLeast = (may : ℕ → Wish) (P : Process) → AsWritten P → Distinct P → Shallow P → LeastBelow unreached (Possible may P) (fewestOf may P)
 
 -- The search: of the complete runs that have the outcomes of a table and leave the set.
 abbrev pub SearchedLeast : Type 0

@@ -1,12 +1,11 @@
-// The fewest failed entries of the complete runs of a plan that have given outcomes and leave exactly a set: by a fold over the codes of the outcome chart,
+// The fewest failed entries of the complete runs of a plan that have given outcomes and leave exactly a set: by a fold over the codes of three levels,
 // and for the actions of the set by trying leaves of theirs as ones that must finish, the action with the fewest such leaves first. Sets have up to 24 actions.
 ghost use mathlib.Core.Path.{_≡_};
 ghost use mathlib.Core.Bool.{true, not, cond, _&&_};
 ghost use Prim.Native.Nat.{_+_, _≤_, _<_, min};
 ghost use lib.Dec.{eqb, ltb, leb};
 ghost use lib.ListN.{length, set};
-ghost use Rattle.outcomes.specs.Table.{cellIn};
-ghost use Rattle.outcomes.specs.Table.{chart as outcomeChart};
+ghost use Rattle.outcomes.specs.Rows.{rows as outcomeRows, codeOfDigit, rowCell, cellIn3};
 ghost use Rattle.nodes.specs.Nodes.{count, form, left};
 ghost use Rattle.plan.specs.PlanFile.{RunnableWithin};
 ghost use Rattle.plan.specs.Tree.{leafOf, processOf};
@@ -20,7 +19,7 @@ pub const NONE: u8 = 64;
 
 // Of a node, for each code the fewest failed entries of its runs under it.
 pub struct Costs {
-    pub by: [u8; 7],
+    pub by: [u8; 15],
 }
 
 fn given(may: bool, k: u8) -> u8
@@ -37,7 +36,23 @@ fn leaf(absent: bool, finishing: bool, failing: bool) -> Costs
     let finished = given(finishing, 0);
     let failed = given(failing, 1);
     Costs {
-        by: [free, finished, finished, NONE, failed, failed, NONE],
+        by: [
+            free,
+            finished,
+            finished,
+            finished,
+            NONE,
+            NONE,
+            NONE,
+            NONE,
+            NONE,
+            failed,
+            failed,
+            NONE,
+            NONE,
+            NONE,
+            NONE,
+        ],
     }
 }
 
@@ -52,50 +67,49 @@ fn lesser(left: u8, right: u8, found: u8) -> u8
     found
 }
 
-// One sum more under the code c, where that is a code.
-fn with_sum(c: u8, left: u8, right: u8, z: Costs) -> Costs
-    ensures { λ r. ⌜ r ≡ withSum c (left + right) z ⌝ }
+// One sum more under the code that a digit stands for, where it stands for one.
+fn add_sum(digit: u8, left: u8, right: u8, out: &mut [u8; 15])
+    requires { ⌜ digit < 16 ⌝ }
+    ensures { λ r. ⌜ record { by = now (out .exit) } ≡ withSum (codeOfDigit digit) (left + right) (record { by = now (out .entry) }) ⌝ }
 {
-    if c < 7 {
-        let mut by = z.by;
-        let at = c as usize;
-        let k = lesser(left, right, by[at]);
-        by[at] = k;
-        return Costs { by };
+    if digit == 0 {
+        return;
     }
-    z
+    let at = (digit - 1) as usize;
+    let k = lesser(left, right, out[at]);
+    out[at] = k;
 }
 
-// The cells of the left code l, whose cost is k; none where nothing has the code.
-fn row(table: &[u8; 245], form: u8, l: u8, k: u8, y: Costs, z: Costs) -> Costs
-    ensures { λ v. ⌜ v ≡ cond (ltb k unreached) (rowCosts (cellIn (now (table .entry)) form l) k y 7 z) z ⌝ }
+// The cells of a left code, whose cost is k, as far as their row goes; none where nothing has the code.
+fn add_row(row: u64, k: u8, right: &[u8; 15], out: &mut [u8; 15])
+    ensures { λ v. ⌜ record { by = now (out .exit) } ≡ cond (ltb k unreached) (rowCosts (rowCell row) k (record { by = now (right .entry) }) 15 (record { by = now (out .entry) })) (record { by = now (out .entry) }) ⌝ }
 {
     if NONE <= k {
-        return z;
+        return;
     }
-    let right = y.by;
-    let mut out = z;
-    let mut r = 0u8;
-    while r < 7 {
-        let c = outcomes::chart::cell_in(table, form, l, r);
-        out = with_sum(c, k, right[r as usize], out);
+    let mut rest = row;
+    let mut r = 0;
+    while r < 15 && rest != 0 {
+        add_sum((rest % 16) as u8, k, right[r], out);
+        rest >>= 4;
         r += 1;
     }
-    out
 }
 
-// A composite, by the chart's cells.
-fn node(table: &[u8; 245], form: u8, x: Costs, y: Costs) -> Costs
-    ensures { λ v. ⌜ v ≡ nodeCosts (cellIn (now (table .entry)) form) x y 7 ⌝ }
+// A composite, by the rows of its form.
+fn node(rows: &[u64; 75], form: u8, x: Costs, y: Costs) -> Costs
+    ensures { λ v. ⌜ v ≡ nodeCosts (cellIn3 (now (rows .entry)) form) x y 15 ⌝ }
 {
     let left = x.by;
-    let mut out = Costs { by: [NONE; 7] };
+    let right = y.by;
+    let mut by = [NONE; 15];
     let mut l = 0u8;
-    while l < 7 {
-        out = row(table, form, l, left[l as usize], y, out);
+    while l < 15 {
+        let row = outcomes::rows::row_in(rows, form, l);
+        add_row(row, left[l as usize], &right, &mut by);
         l += 1;
     }
-    out
+    Costs { by }
 }
 
 // Whether a leaf of this type may finish, where the table has this outcome for it; `welcome`: its action is one of the set, or it has none.
@@ -139,7 +153,7 @@ fn leaf_at(types: &[u8], nodes: &[u8], set: usize, outcome: u8, n: usize) -> Cos
 
 // The costs of node i: a leaf's, or a composite's from those of its parts.
 fn costs_at(
-    chart: &[u8; 245],
+    rows: &[u64; 75],
     types: &[u8],
     nodes: &[u8],
     set: usize,
@@ -149,13 +163,13 @@ fn costs_at(
     y: Costs,
 ) -> Costs
     requires { ⌜ RunnableWithin mostSearched (now types) (now nodes) × (i < count (now nodes)) ⌝ }
-    ensures { λ r. ⌜ r ≡ cond (ltb (form (now (nodes .entry)) i) 3) (costsOf (λ n. wishOf (welcome (now (nodes .entry)) set i) outcome) (leafOf (now (types .entry)) (now (nodes .entry)) i)) (nodeCosts (cellIn (now (chart .entry)) (form (now (nodes .entry)) i)) x y 7) ⌝ }
+    ensures { λ r. ⌜ r ≡ cond (ltb (form (now (nodes .entry)) i) 3) (costsOf (λ n. wishOf (welcome (now (nodes .entry)) set i) outcome) (leafOf (now (types .entry)) (now (nodes .entry)) i)) (nodeCosts (cellIn3 (now (rows .entry)) (form (now (nodes .entry)) i)) x y 15) ⌝ }
 {
     let form = nodes[3 * i];
     if form < 3 {
         return leaf_at(types, nodes, set, outcome, i);
     }
-    node(chart, form, x, y)
+    node(rows, form, x, y)
 }
 
 // The least of the costs under the codes of complete runs.
@@ -163,15 +177,15 @@ fn final_cost(x: Costs) -> u8
     ensures { λ r. ⌜ r ≡ finalCost x ⌝ }
 {
     let by = x.by;
-    lesser(by[1], 0, lesser(by[5], 0, by[6]))
+    lesser(by[1], 0, lesser(by[9], 0, lesser(by[13], 0, by[14])))
 }
 
 // The fewest failed entries of a complete run that has the outcomes of the table and finishes no action outside the set.
-fn fold(chart: &[u8; 245], types: &[u8], nodes: &[u8], set: usize, table: &[u8; 63]) -> u8
-    requires { ⌜ RunnableWithin mostSearched (now types) (now nodes) × (now chart ≡ outcomeChart) ⌝ }
+fn fold(rows: &[u64; 75], types: &[u8], nodes: &[u8], set: usize, table: &[u8; 63]) -> u8
+    requires { ⌜ RunnableWithin mostSearched (now types) (now nodes) × (now rows ≡ outcomeRows) ⌝ }
     ensures { λ r. ⌜ r ≡ fewestOf (wishes (now (nodes .entry)) set (now (table .entry))) (processOf (now (types .entry)) (now (nodes .entry))) ⌝ }
 {
-    let none = Costs { by: [NONE; 7] };
+    let none = Costs { by: [NONE; 15] };
     let n = nodes.len() / 3;
     let mut costs = [none; 63];
     let mut i = 0;
@@ -179,7 +193,7 @@ fn fold(chart: &[u8; 245], types: &[u8], nodes: &[u8], set: usize, table: &[u8; 
         let x = nodes::node_at(nodes, i);
         let l = x.left;
         let r = x.right;
-        let v = costs_at(chart, types, nodes, set, table[i], i, costs[l], costs[r]);
+        let v = costs_at(rows, types, nodes, set, table[i], i, costs[l], costs[r]);
         costs[i] = v;
         i += 1;
     }
@@ -299,7 +313,7 @@ fn candidates(nodes: &[u8], table: &[u8; 63], a: usize) -> usize
 
 // Whether node n is a candidate of the action a that the fold does not rule out.
 fn is_left(
-    chart: &[u8; 245],
+    rows: &[u64; 75],
     types: &[u8],
     nodes: &[u8],
     set: usize,
@@ -308,19 +322,19 @@ fn is_left(
     best: u8,
     n: usize,
 ) -> bool
-    requires { ⌜ RunnableWithin mostSearched (now types) (now nodes) × (now chart ≡ outcomeChart) × (n < count (now nodes)) ⌝ }
+    requires { ⌜ RunnableWithin mostSearched (now types) (now nodes) × (now rows ≡ outcomeRows) × (n < count (now nodes)) ⌝ }
     ensures { λ r. ⌜ r ≡ isLeft (now (types .entry)) (now (nodes .entry)) set (now (table .entry)) a best n ⌝ }
 {
     if !is_candidate(nodes, table, a, n) {
         return false;
     }
     let t = with_finished(table, n);
-    fold(chart, types, nodes, set, &t) < best
+    fold(rows, types, nodes, set, &t) < best
 }
 
 // How many of these there are.
 fn leaves_left(
-    chart: &[u8; 245],
+    rows: &[u64; 75],
     types: &[u8],
     nodes: &[u8],
     set: usize,
@@ -328,14 +342,14 @@ fn leaves_left(
     a: usize,
     best: u8,
 ) -> usize
-    requires { ⌜ RunnableWithin mostSearched (now types) (now nodes) × (now chart ≡ outcomeChart) ⌝ }
+    requires { ⌜ RunnableWithin mostSearched (now types) (now nodes) × (now rows ≡ outcomeRows) ⌝ }
     ensures { λ r. ⌜ r ≡ leavesLeft (now (types .entry)) (now (nodes .entry)) set (now (table .entry)) a best ⌝ }
 {
     let n = nodes.len() / 3;
     let mut many = 0;
     let mut i = 0;
     while i < n {
-        many += one_if(is_left(chart, types, nodes, set, table, a, best, i));
+        many += one_if(is_left(rows, types, nodes, set, table, a, best, i));
         i += 1;
     }
     many
@@ -359,7 +373,7 @@ fn fewer(c: Choice, action: usize, leaves: usize) -> Choice
 
 // The action that is due with the fewest leaves left.
 fn fewest_left(
-    chart: &[u8; 245],
+    rows: &[u64; 75],
     types: &[u8],
     nodes: &[u8],
     set: usize,
@@ -367,7 +381,7 @@ fn fewest_left(
     table: &[u8; 63],
     best: u8,
 ) -> Choice
-    requires { ⌜ RunnableWithin mostSearched (now types) (now nodes) × (now chart ≡ outcomeChart) × (actions ≤ mostSearched) ⌝ }
+    requires { ⌜ RunnableWithin mostSearched (now types) (now nodes) × (now rows ≡ outcomeRows) × (actions ≤ mostSearched) ⌝ }
     ensures { λ r. ⌜ Chosen actions (now (types .entry)) (now (nodes .entry)) set (now (table .entry)) best r ⌝ }
 {
     let mut c = Choice {
@@ -376,7 +390,7 @@ fn fewest_left(
     };
     let mut a = next_due(nodes, set, table, 0, actions);
     while a < actions {
-        let k = leaves_left(chart, types, nodes, set, table, a, best);
+        let k = leaves_left(rows, types, nodes, set, table, a, best);
         c = fewer(c, a, k);
         a = next_due(nodes, set, table, a + 1, actions);
     }
@@ -400,7 +414,7 @@ fn first_single(nodes: &[u8], set: usize, actions: usize, table: &[u8; 63]) -> u
 
 // The action to be tried next: one that leaves no choice, for which no fold is needed; else that with the fewest leaves left.
 fn choose(
-    chart: &[u8; 245],
+    rows: &[u64; 75],
     types: &[u8],
     nodes: &[u8],
     set: usize,
@@ -408,19 +422,19 @@ fn choose(
     table: &[u8; 63],
     best: u8,
 ) -> Choice
-    requires { ⌜ RunnableWithin mostSearched (now types) (now nodes) × (now chart ≡ outcomeChart) × (actions ≤ mostSearched) ⌝ }
+    requires { ⌜ RunnableWithin mostSearched (now types) (now nodes) × (now rows ≡ outcomeRows) × (actions ≤ mostSearched) ⌝ }
     ensures { λ r. ⌜ Chosen actions (now (types .entry)) (now (nodes .entry)) set (now (table .entry)) best r ⌝ }
 {
     let action = first_single(nodes, set, actions, table);
     if action < actions {
         return Choice { action, leaves: 1 };
     }
-    fewest_left(chart, types, nodes, set, actions, table, best)
+    fewest_left(rows, types, nodes, set, actions, table, best)
 }
 
 // Whether the fold rules out the table. It is asked only where another one might do.
 fn is_cut(
-    chart: &[u8; 245],
+    rows: &[u64; 75],
     types: &[u8],
     nodes: &[u8],
     set: usize,
@@ -428,15 +442,15 @@ fn is_cut(
     other: bool,
     best: u8,
 ) -> bool
-    requires { ⌜ RunnableWithin mostSearched (now types) (now nodes) × (now chart ≡ outcomeChart) ⌝ }
+    requires { ⌜ RunnableWithin mostSearched (now types) (now nodes) × (now rows ≡ outcomeRows) ⌝ }
     ensures { λ r. ⌜ r ≡ (other && leb best (fewestOf (wishes (now (nodes .entry)) set (now (table .entry))) (processOf (now (types .entry)) (now (nodes .entry))))) ⌝ }
 {
-    other && best <= fold(chart, types, nodes, set, table)
+    other && best <= fold(rows, types, nodes, set, table)
 }
 
 // The fewest failed entries of a run in which each action of the set finishes, where it is below `best`; else `best`. `other`: this table is one of several.
 fn search(
-    chart: &[u8; 245],
+    rows: &[u64; 75],
     types: &[u8],
     nodes: &[u8],
     set: usize,
@@ -445,16 +459,16 @@ fn search(
     other: bool,
     best: u8,
 ) -> u8
-    requires { ⌜ Searchable actions (now types) (now nodes) set × (now chart ≡ outcomeChart) × (best ≤ unreached) × (length (now table) ≡ 63) ⌝ }
+    requires { ⌜ Searchable actions (now types) (now nodes) set × (now rows ≡ outcomeRows) × (best ≤ unreached) × (length (now table) ≡ 63) ⌝ }
     ensures { λ r. ⌜ r ≡ min best (searched (now (types .entry)) (now (nodes .entry)) set actions 0 (now (table .entry))) ⌝ }
 {
-    if is_cut(chart, types, nodes, set, table, other, best) {
+    if is_cut(rows, types, nodes, set, table, other, best) {
         return best;
     }
-    let c = choose(chart, types, nodes, set, actions, table, best);
+    let c = choose(rows, types, nodes, set, actions, table, best);
     let a = c.action;
     if a == actions {
-        return lesser(fold(chart, types, nodes, set, table), 0, best);
+        return lesser(fold(rows, types, nodes, set, table), 0, best);
     }
     if c.leaves == 0 {
         return best;
@@ -465,7 +479,7 @@ fn search(
     let mut i = next_candidate(nodes, table, a, 0);
     while i < n {
         let t = with_finished(table, i);
-        found = search(chart, types, nodes, set, actions, &t, several, found);
+        found = search(rows, types, nodes, set, actions, &t, several, found);
         i = next_candidate(nodes, table, a, i + 1);
     }
     found
@@ -474,7 +488,7 @@ fn search(
 // The fewest failed entries of a complete run of the plan that has the outcomes of the table and leaves exactly the set, where there is one with fewer than `most`; else `most`.
 // The set is one of the first `actions` actions. Of a table's leaf: 0 it is free, 1 it must have finished, 2 it must have failed.
 pub fn fewest(
-    chart: &[u8; 245],
+    rows: &[u64; 75],
     types: &[u8],
     nodes: &[u8],
     actions: usize,
@@ -482,8 +496,8 @@ pub fn fewest(
     table: [u8; 63],
     most: u8,
 ) -> u8
-    requires { ⌜ Searchable actions (now types) (now nodes) set × (now chart ≡ outcomeChart) × (most ≤ unreached) ⌝ }
+    requires { ⌜ Searchable actions (now types) (now nodes) set × (now rows ≡ outcomeRows) × (most ≤ unreached) ⌝ }
     ensures { λ r. ⌜ LeastBelow most (Leaving (now (types .entry)) (now (nodes .entry)) set table) r ⌝ }
 {
-    search(chart, types, nodes, set, actions, &table, false, most)
+    search(rows, types, nodes, set, actions, &table, false, most)
 }

@@ -9,6 +9,7 @@ use lib.Dec.{eqb}
 use borrow.Author.Tests.{eqb-true, eq-eqb, ltb-true, lt-ltb}
 use Rattle.blocks.proofs.Bounded.{both-true}
 use Rattle.process.specs.Process.{Status, ok, fail, Kind, permits, Permits, Process, entry, Run}
+use Rattle.process.specs.Depth.{mostUndos}
 use Rattle.nodes.specs.Nodes.{count, form}
 use Rattle.plan.specs.PlanFile.{Runnable}
 use Rattle.plan.specs.Tree.{typeKind, leafKind, processOf}
@@ -40,8 +41,8 @@ module _ (types b : List ℕ) (r : Runnable types b) where
   abbrev P : Process
   P = processOf types b
 
-  pub told-begins : Beginnings 1 P
-  told-begins = let d = drawn types b r in beginnings 1 P (d .written) (d .distinct) (d .flat)
+  pub told-begins : Beginnings mostUndos P
+  told-begins = let d = drawn types b r in beginnings mostUndos P (d .written) (d .distinct) (d .shallow)
 
   -- what may follow a run is an entry of a leaf of the plan, with a status that it permits
   pub record OfLeaf (n : ℕ) (s : Status) : Type 0 where
@@ -55,7 +56,7 @@ module _ (types b : List ℕ) (r : Runnable types b) where
       rw same (record { present = c; plain = f; permitted = may })
 
   module _ (w : Run) (table : List ℕ) (stands : Stands w table) (begun : Begins P w) where
-    next-is : toldBy b table .next ≡ toldNext 1 P w
+    next-is : toldBy b table .next ≡ toldNext mostUndos P w
     next-is = ap (λ (t : Told). t .next) (told-of types b r w table stands)
 
     pub comes : (n outcome : ℕ) → (mayCome types b table n outcome ≡ true) ↔ ((s : Status) × (outcome ≡ statusNumber s) × Begins P (w ++ (entry n s ∷ [])))

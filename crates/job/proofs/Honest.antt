@@ -8,6 +8,7 @@ use Prim.Native.Nat.{ℕ}
 use native.Mathlib.Omega.{arith}
 use Rattle.blocks.proofs.Bounded.{decide}
 use Rattle.process.specs.Process.{Status, ok, fail, Process, Run}
+use Rattle.process.specs.Depth.{mostUndos}
 use Rattle.plan.specs.Reading.{readOf}
 use Rattle.plan.specs.declared.Layout.{Layout}
 use Rattle.plan.specs.declared.Reading.the-variants.{Accepted}
@@ -61,15 +62,15 @@ module _ (s : List ℕ) (l : Layout) (acc : readOf s ≡ Accepted l) (x : Standi
       go (inr h) = refuses-so 11 (x .job) (takeOf (x .job) e) (not-taken s l acc (x .job) (f .good) e h)
 
   abbrev T : Told
-  T = saying (record { ended = toldEnded 1 P w; next = toldNext 1 P w })
+  T = saying (record { ended = toldEnded mostUndos P w; next = toldNext mostUndos P w })
 
   ends-or-goes-on : EndsOrGoesOn (x .told)
-  ends-or-goes-on = rw (told-is s l acc x f) (go (toldEnded 1 P w) refl (tells s l acc .goes-on w (reached s l acc x f .begins)))
+  ends-or-goes-on = rw (told-is s l acc x f) (go (toldEnded mostUndos P w) refl (tells s l acc .goes-on w (reached s l acc x f .begins)))
     where
-      ended-so : (t : Status) → toldEnded 1 P w ≡ ending t → EndsOrGoesOn T
-      ended-so t e = may-end t (end-told (toldEnded 1 P w) t e) (tells s l acc .over w t e)
+      ended-so : (t : Status) → toldEnded mostUndos P w ≡ ending t → EndsOrGoesOn T
+      ended-so t e = may-end t (end-told (toldEnded mostUndos P w) t e) (tells s l acc .over w t e)
 
-      go : (y : Ended) → toldEnded 1 P w ≡ y → ((t : Status) × (toldEnded 1 P w ≡ ending t)) ⊎ ((n : ℕ) × Holds (toldNext 1 P w) n) → EndsOrGoesOn T
+      go : (y : Ended) → toldEnded mostUndos P w ≡ y → ((t : Status) × (toldEnded mostUndos P w ≡ ending t)) ⊎ ((n : ℕ) × Holds (toldNext mostUndos P w) n) → EndsOrGoesOn T
       go y e (inl (t, h)) = ended-so t h
       go ended.Open e (inr (n, h)) = goes-on (rw e) n h
       go ended.Succeeded e (inr h) = ended-so ok e
@@ -84,12 +85,12 @@ module _ (s : List ℕ) (l : Layout) (acc : readOf s ≡ Accepted l) (x : Standi
         takes = takes-so;
         refuses = refused-so;
         ends = λ t. (
-          λ h. tells s l acc .ends w begun t .0 (ending-told (toldEnded 1 P w) t (rw is at h)),
-          λ c. rw is (end-told (toldEnded 1 P w) t (tells s l acc .ends w begun t .1 c)),
+          λ h. tells s l acc .ends w begun t .0 (ending-told (toldEnded mostUndos P w) t (rw is at h)),
+          λ c. rw is (end-told (toldEnded mostUndos P w) t (tells s l acc .ends w begun t .1 c)),
         );
         next = λ n. (
           λ h.
-              let k : Holds (toldNext 1 P w) n = rw is at h in
+              let k : Holds (toldNext mostUndos P w) n = rw is at h in
               let (t, p) = tells s l acc .told-leaf w begun n k in
               (t, tells s l acc .next w begun n t .1 (k, p)),
           λ (t, z). rw is (tells s l acc .next w begun n t .0 z .0),

@@ -5,22 +5,19 @@ use mathlib.Core.List.{List, [], _∷_, _++_}
 use Prim.Native.Nat.{ℕ, zero, suc, _-_, _<_}
 use native.Mathlib.Omega.{arith}
 use lib.Dec.{eqb}
-use lib.ListN.{length, getD, set, replicate, length-set, length-replicate, getD-replicate, List·getD-eq-default}
+use lib.ListN.{length, getD, set, replicate, length-set}
 use lib.Seq.{getD-set-same, getD-set-other}
 use borrow.Author.Tests.{eqb-true, eqb-false}
-use Rattle.blocks.proofs.Bounded.{decide}
-use Rattle.process.specs.Process.{Status, ok, fail, Process, node, entry, Run}
-use Rattle.process.specs.Forms.{formOf}
+use Rattle.process.specs.Process.{Status, ok, fail, entry, Run}
+use Rattle.process.specs.Depth.{mostUndos}
 use Rattle.nodes.specs.Nodes.{count, form, left, right, Descending}
 use Rattle.plan.specs.PlanFile.{Runnable}
 use Rattle.plan.specs.Tree.{leafKind, leafOf, compositeOf, processAt, processOf}
 use Rattle.nodes.proofs.Fold.{node-ind, fold-leaf, fold-node}
 use Rattle.plan.proofs.Tree.{parts-smaller}
-use Rattle.runs.specs.Cells.{Outcomes, ending, noneRun, setOutcome, outcomesAfter, toldEnded, toldNext}
-use Rattle.runs.specs.TwoLevels.{toldTwo, cellsTwo}
-use Rattle.runs.specs.declared.Ended.the-variants.{Open}
-use Rattle.runs.specs.declared.Told.{Told}
-use Rattle.runs.proofs.TwoLevels.{two-levels}
+use Rattle.runs.specs.Cells.{Outcomes, ending, noneRun, outcomesAfter, toldEnded, toldNext}
+use Rattle.runs.specs.ThreeLevels.{toldThree, cellsThree}
+use Rattle.runs.proofs.ThreeLevels.{three-levels}
 use Rattle.state.specs.State.{outcomeOf, leafCells, nodeCells, cellsAt, toldBy, freshTable}
 use Rattle.job.specs.Offer.{statusNumber}
 
@@ -49,7 +46,7 @@ ending-of fail = refl
 pub stands-more : (w : Run) (table : List ℕ) (n : ℕ) (s : Status) → n < 63 → Stands w table → Stands (w ++ (entry n s ∷ [])) (set table n (statusNumber s))
 stands-more w table n s h t = record {
   long = simp length-set (t .long);
-  same = fun-ext (λ i. at i (eqb n i) refl) ∙ sym (two-levels .at-entry noneRun w n s);
+  same = fun-ext (λ i. at i (eqb n i) refl) ∙ sym (three-levels .at-entry noneRun w n s);
 }
   where
     at : (i : ℕ) (q : Bool) → eqb n i ≡ q → outcomes (set table n (statusNumber s)) i ≡ cond q (ending s) (outcomesAfter noneRun w i)
@@ -61,24 +58,24 @@ stands-more w table n s h t = record {
 
 module _ (types b : List ℕ) (r : Runnable types b) where
   -- the fold over the nodes is the fold over the process
-  cells-of : (table : List ℕ) (i : ℕ) → i < count b → cellsAt b table i ≡ cellsTwo (outcomes table) (processAt types b i)
-  cells-of table = node-ind b down (λ i. cellsAt b table i ≡ cellsTwo (outcomes table) (processAt types b i))
+  cells-of : (table : List ℕ) (i : ℕ) → i < count b → cellsAt b table i ≡ cellsThree (outcomes table) (processAt types b i)
+  cells-of table = node-ind b down (λ i. cellsAt b table i ≡ cellsThree (outcomes table) (processAt types b i))
       (λ i c f.
       fold-leaf (leafCells table) (nodeCells b) b i f
-      ∙ two-levels .at-leaf (outcomes table) i (leafKind types b i) (omega (arith, r .nodes-few))
-      ∙ ap (cellsTwo (outcomes table)) (sym (fold-leaf (leafOf types b) (compositeOf b) b i f)))
+      ∙ three-levels .at-leaf (outcomes table) i (leafKind types b i) (omega (arith, r .nodes-few))
+      ∙ ap (cellsThree (outcomes table)) (sym (fold-leaf (leafOf types b) (compositeOf b) b i f)))
       (λ i c f x y.
       fold-node (leafCells table) (nodeCells b) b down i c f
       ∙ ap₂ (nodeCells b i) x y
-      ∙ two-levels .at-node (outcomes table) (form b i) (processAt types b (left b i)) (processAt types b (right b i))
-      ∙ ap (cellsTwo (outcomes table)) (sym (fold-node (leafOf types b) (compositeOf b) b down i c f)))
+      ∙ three-levels .at-node (outcomes table) (form b i) (processAt types b (left b i)) (processAt types b (right b i))
+      ∙ ap (cellsThree (outcomes table)) (sym (fold-node (leafOf types b) (compositeOf b) b down i c f)))
     where
       down : Descending b
       down = parts-smaller types b r
 
   -- what is told by a table is what the cells tell of the run that it stands for
-  pub told-of : (w : Run) (table : List ℕ) → Stands w table → toldBy b table ≡ record { ended = toldEnded 1 (processOf types b) w; next = toldNext 1 (processOf types b) w }
+  pub told-of : (w : Run) (table : List ℕ) → Stands w table → toldBy b table ≡ record { ended = toldEnded mostUndos (processOf types b) w; next = toldNext mostUndos (processOf types b) w }
   unfolding toldBy
   told-of w table t =
-      ap toldTwo (cells-of table (count b - 1) (omega (arith, r .nodes-some)) ∙ ap (λ (o : Outcomes). cellsTwo o (processOf types b)) (t .same))
-      ∙ two-levels .at-root w (processOf types b)
+      ap toldThree (cells-of table (count b - 1) (omega (arith, r .nodes-some)) ∙ ap (λ (o : Outcomes). cellsThree o (processOf types b)) (t .same))
+      ∙ three-levels .at-root w (processOf types b)

@@ -6,6 +6,7 @@ use mathlib.Core.Logic.{_↔_, _⊎_, inl, inr}
 use Prim.Native.Nat.{ℕ}
 use Rattle.blocks.proofs.Bounded.{decide}
 use Rattle.process.specs.Process.{Process, Run}
+use Rattle.process.specs.Depth.{mostUndos}
 use Rattle.plan.specs.Reading.{bytesOf, readOf}
 use Rattle.plan.specs.declared.Layout.{Layout}
 use Rattle.plan.specs.declared.Reading.the-variants.{Accepted}
@@ -38,7 +39,7 @@ module _ (s : List ℕ) (l : Layout) (acc : readOf s ≡ Accepted l) where
   P = planProcess s l
 
   -- the theorem on beginnings, of the plan
-  pub tells : Beginnings 1 P
+  pub tells : Beginnings mostUndos P
   tells = told-begins T N (runs-on s l acc)
 
   pub record Fine (x : Standing) : Type 0 where
@@ -61,7 +62,7 @@ module _ (s : List ℕ) (l : Layout) (acc : readOf s ≡ Accepted l) where
         let (to, from) = comes T N (runs-on s l acc) w (f .good .table) (reached .stands) (reached .begins) (e .leaf) (e .outcome) in
         (λ h. let (t, o, z) = to h in record { status = t; outcome = o; begins = z }, λ c. from (c .status, c .outcome, c .begins))
 
-    pub told-is : x .told ≡ saying (record { ended = toldEnded 1 P w; next = toldNext 1 P w })
+    pub told-is : x .told ≡ saying (record { ended = toldEnded mostUndos P w; next = toldNext mostUndos P w })
     told-is = f .told ∙ ap saying (told-of T N (runs-on s l acc) w (f .good .table) (reached .stands))
 
     pub next-fine : (e : Entry) → Fine (next x e)

@@ -5,13 +5,10 @@ use mathlib.Core.Bool.{Bool, not}
 use mathlib.Core.List.{List, List·Memᴰ}
 use Prim.Native.Nat.{ℕ}
 use Rattle.family.specs.Family.{In}
-use Rattle.process.specs.Process.{Status}
-use Rattle.outcomes.specs.Families.{InFamily}
-use Rattle.outcomes.proofs.Members.{in-plan-sets, out-plan-sets}
+use Rattle.outcomes.proofs.ThreeLevels.{in-plan-sets, out-plan-sets}
 use Rattle.plan.specs.Tree.{processOf}
 use Rattle.meaning.specs.Value.{satisfies}
 use Rattle.summary.specs.declared.Summary.{Summary}
-use Rattle.summary.specs.Summary.{familyOf}
 use Rattle.summary.specs.Exact.{Exact}
 use Rattle.sets.specs.PlanSets.{leafSet, actionSets, setsOf}
 use Rattle.least.specs.Least.{FinalSet, Finals, LeastOf}

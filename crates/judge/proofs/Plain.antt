@@ -7,7 +7,7 @@ use lib.Bits.{or-lt}
 use lib.ListN.{length}
 use Rattle.process.specs.Process.{ok, fail, entry, Run}
 use Rattle.outcomes.specs.Sets.{setOf}
-use Rattle.outcomes.proofs.OutcomeChart.{outcome-chart}
+use Rattle.outcomes.proofs.VerdictSets.{verdict-sets}
 use Rattle.nodes.specs.Nodes.{count}
 use Rattle.plan.specs.PlanFile.{mostActions, Runnable}
 use Rattle.plan.specs.Tree.{processOf}
@@ -49,7 +49,7 @@ module _ (types b : List ℕ) (plan : Runnable types b) where
   -- a set of the whole process is left by some run
   pub left-final : (root : Summary) → Exact (leafSet b) root (processOf types b) → (set : ℕ) → FinalSet root set → LeftBy types b set
   left-final root exact set f =
-      let (run, c, e) = outcome-chart .action-sets (leafSet b) .families (processOf types b) (f .status) set (drawn types b plan .flat) .0 (f .code, f .final, exact (f .code) set .0 (f .has)) in
+      let (run, c, e) = verdict-sets .action-sets (leafSet b) .three-levels (processOf types b) (f .status) set (drawn types b plan .shallow) .0 (f .code, f .final, exact (f .code) set .0 (f .has)) in
       record { run = run; status = f .status; complete = c; leaves = e }
 
 -- the bytes that are computed show the run

@@ -1,4 +1,4 @@
--- The sets of an accepted plan are those that its complete runs leave: the theorem on the outcome chart, carried to the plan's bytes.
+-- The sets of an accepted plan are those that its complete runs leave: the theorem on the codes of three levels, carried to the plan's bytes.
 use mathlib.Core.Path.{_≡_, refl}
 use mathlib.Core.List.{List, List·Memᴰ}
 use mathlib.Core.Logic.{_↔_}
@@ -6,9 +6,9 @@ use Prim.Native.Nat.{ℕ}
 use Rattle.process.specs.Process.{Status, Run}
 use Rattle.process.specs.Figure2.{Complete}
 use Rattle.outcomes.specs.Sets.{Leaves}
-use Rattle.outcomes.specs.Families.{InPlan}
-use Rattle.outcomes.proofs.Members.{in-plan-sets, out-plan-sets}
-use Rattle.outcomes.proofs.OutcomeChart.{outcome-chart}
+use Rattle.outcomes.specs.ThreeLevels.{InPlan3}
+use Rattle.outcomes.proofs.ThreeLevels.{in-plan-sets, out-plan-sets}
+use Rattle.outcomes.proofs.VerdictSets.{verdict-sets}
 use Rattle.plan.specs.Reading.{bytesOf, readOf}
 use Rattle.plan.specs.declared.Layout.{Layout}
 use Rattle.plan.specs.declared.Reading.the-variants.{Accepted}
@@ -22,8 +22,8 @@ module _ (s : List ℕ) (l : Layout) (h : readOf s ≡ Accepted l) where
   abbrev nodes : List ℕ
   nodes = bytesOf s (l .nodes)
 
-  families : (status : Status) (t : ℕ) → InPlan (actionSets nodes) (planProcess s l) status t ↔ Leaves (actionSets nodes) (planProcess s l) status t
-  families status t = outcome-chart .action-sets (leafSet nodes) .families (planProcess s l) status t (demand1 .tree s l h .flat)
+  families : (status : Status) (t : ℕ) → InPlan3 (actionSets nodes) (planProcess s l) status t ↔ Leaves (actionSets nodes) (planProcess s l) status t
+  families status t = verdict-sets .action-sets (leafSet nodes) .three-levels (planProcess s l) status t (demand1 .tree s l h .shallow)
 
   -- a set of the plan is left by a complete run
   pub left-by : (t : ℕ) → List·Memᴰ t (planSetsOf s l) → (status : Status) × (run : Run) × Complete (planProcess s l) run status × (runSet s l run ≡ t)

@@ -33,7 +33,7 @@ answerOf (Found t) = Violated t
 abbrev pub keepsRule : List ℕ → Layout → ℕ → Bool
 keepsRule s l t = satisfies (bytesOf s (l .rule)) (bytesOf s (l .pairs)) t
 
--- The sets of an accepted plan file, "those under 1, 5 and 6".
+-- The sets of an accepted plan file: those under the codes of complete runs.
 abbrev pub planSetsOf : List ℕ → Layout → List ℕ
 planSetsOf s l = setsOf (bytesOf s (l .types)) (bytesOf s (l .nodes))
 

@@ -39,14 +39,13 @@ pub struct Finding {
     pub run: [u8; 126],
 }
 
-// Judges a plan by its four bodies. The chart is fetched once, and lent.
+// Judges a plan by its four bodies. The rows of the chart are fetched once, and lent.
 fn judge(types: &[u8], pairs: &[u8], nodes: &[u8], rule: &[u8], work: &mut [u8]) -> Finding
     requires { ⌜ Runnable (now types) (now nodes) × (workSize ≤ length (now work)) ⌝ }
     ensures { λ r. ⌜ JudgedPlan (now (types .entry)) (now (pairs .entry)) (now (nodes .entry)) (now (rule .entry)) (now (work .entry)) (now (work .exit)) (r .judgement) (r .run) ⌝ }
 {
-    let table = outcomes::chart::table();
-    sets::fill(&table, types, nodes, work);
-    let root = area::load(work, nodes.len() / 3 - 1);
+    let rows = outcomes::rows::table();
+    let root = sets::fill(&rows, types, nodes, work);
     match least::find(rule, pairs, least::finals(root)) {
         Least::Nothing => Finding {
             judgement: Judgement::Consistent,
@@ -54,7 +53,7 @@ fn judge(types: &[u8], pairs: &[u8], nodes: &[u8], rule: &[u8], work: &mut [u8])
         },
         Least::Found(set) => Finding {
             judgement: Judgement::Violated(set),
-            run: plainest::show(&table, types, nodes, set),
+            run: plainest::show(&rows, types, nodes, set),
         },
     }
 }

@@ -6,18 +6,18 @@ use Prim.Native.Nat.{ℕ, _%_, _≤_}
 use lib.Dec.{eqb}
 use Rattle.family.specs.Family.{bitAt, In}
 use Rattle.process.specs.Process.{Status}
-use Rattle.outcomes.specs.Codes.{Final}
+use Rattle.outcomes.specs.ThreeLevels.{Final3}
 use Rattle.meaning.specs.Value.{satisfies}
 use Rattle.summary.specs.declared.Summary.{Summary}
 use Rattle.summary.specs.Summary.{familyOf}
 use Rattle.least.specs.declared.Least.{Least}
 use Rattle.least.specs.declared.Least.the-variants.{Found, Nothing}
 
--- The set t stands under a code of a complete run: "The whole plan's sets are those under 1, 5 and 6."
+-- The set t stands under a code of a complete run.
 pub record FinalSet (s : Summary) (t : ℕ) : Type 0 where
   pub code : ℕ
   pub status : Status
-  pub final : Final code status
+  pub final : Final3 code status
   pub has : In (familyOf s code) t
 
 -- The family r has just these.

@@ -11,14 +11,16 @@ pub enum Least {
     Nothing,
 }
 
-// The sets of the whole process that complete runs leave: those under 1, 5 and 6.
+// The sets of the whole process that complete runs leave: those under 1, 9, 13 and 14.
 pub fn finals(s: Summary) -> [u64; 16]
     ensures { λ r. ⌜ Finals s r ⌝ }
 {
     let s1 = s.s1;
-    let s5 = s.s5;
-    let s6 = s.s6;
-    let failed = family::join(s5, s6);
+    let s9 = s.s9;
+    let s13 = s.s13;
+    let s14 = s.s14;
+    let not_undone = family::join(s13, s14);
+    let failed = family::join(s9, not_undone);
     family::join(s1, failed)
 }
 

@@ -4,3 +4,4 @@ pub mod Nested
 pub mod Forms
 pub mod Named
 pub mod Under
+pub mod Depth

@@ -1,53 +1,52 @@
--- The loop of check 8: a table of which nodes hold a compensation at or below them, filled in the order of the nodes, decides each undo
--- side by the entries before it.
-use mathlib.Core.Path.{_≡_, refl}
-use mathlib.Core.Bool.{Bool, true, false, cond}
+-- The loop of check 8: a table of the nodes' depths, filled in the order of the nodes, decides each node by its own. What is kept is small,
+-- so that the next depth does not wrap.
+use mathlib.Core.Path.{_≡_, refl, _∙_}
+use mathlib.Core.Bool.{Bool, true, cond}
 use mathlib.Core.List.{List}
 use Prim.Native.Nat.{ℕ, _+_, _<_}
 use native.Mathlib.Omega.{arith}
-use lib.Dec.{ltb, eqb}
+use lib.Dec.{ltb, leb}
 use lib.ListN.{length, getD, set}
-use borrow.Author.Tests.{eqb-true}
-use Rattle.blocks.proofs.Bounded.{Passed, passed-none, passed-more}
+use borrow.Author.Tests.{leb-true}
+use Rattle.process.specs.Depth.{mostUndos}
+use Rattle.blocks.proofs.Bounded.{Passed, every-at, passed-none, passed-more}
 use Rattle.nodes.specs.Nodes.{count, form, left, right, Descending}
-use Rattle.nodes.specs.NodeTests.{holding, noCompensation, holds, undoOk}
+use Rattle.nodes.specs.NodeTests.{deeper, noDepth, depthAt}
+use Rattle.nodes.proofs.Fold.{fold-entry}
 use Rattle.nodes.proofs.Filled.{Filled, filled-none, filled-more}
 
 -- what each turn tests
-abbrev pub undoTest : List ℕ → ℕ → Bool
-undoTest b i = undoOk (form b i) (holds b (right b i))
+abbrev pub depthTest : List ℕ → ℕ → Bool
+depthTest b i = leb (depthAt b i) mostUndos
 
 module _ (b : List ℕ) where
   -- the algebra that the table is filled by
-  abbrev hold : ℕ → Bool → Bool → Bool
-  hold n = holding (form b n)
+  abbrev deep : ℕ → ℕ → ℕ → ℕ
+  deep n = deeper (form b n)
 
-  pub record Held (size i : ℕ) (held : List Bool) : Type 0 where
-    pub filled : Filled noCompensation hold b false size i held
-    pub passed : Passed (undoTest b) (count b) i
+  pub record Kept (size i : ℕ) (depths : List ℕ) : Type 0 where
+    pub filled : Filled noDepth deep b 0 size i depths
+    pub passed : Passed (depthTest b) (count b) i
 
-  pub held-none : (held : List Bool) → Held (length held) 0 held
-  held-none held = record {
-    filled = filled-none noCompensation hold b false (length held) held refl;
-    passed = passed-none (undoTest b) (count b);
+  pub kept-none : (depths : List ℕ) → Kept (length depths) 0 depths
+  kept-none depths = record {
+    filled = filled-none noDepth deep b 0 (length depths) depths refl;
+    passed = passed-none (depthTest b) (count b);
   }
 
-  module _ (down : Descending b) where
-    -- the table decides what the definition asks
-    pub undo-entry : (size i : ℕ) (held : List Bool) → i < count b → Held size i held
-        → undoOk (form b i) (getD held (right b i) false) ≡ undoTest b i
-    undo-entry size i held c f = go (eqb (form b i) 6) refl
-      where
-        go : (t : Bool) → eqb (form b i) 6 ≡ t → undoOk (form b i) (getD held (right b i) false) ≡ undoTest b i
-        go true e =
-            let h = eqb-true (form b i) 6 e in
-            rw (f .filled .entries (right b i) (down i c (omega arith) .1))
-        go false e = simp e
+  pub kept-small : (size i k : ℕ) (depths : List ℕ) → k < i → Kept size i depths → getD depths k 0 < 255
+  kept-small size i k depths l f =
+      let most = leb-true (depthAt b k) mostUndos (every-at (depthTest b) i k (f .passed .held) l) in
+      rw (f .filled .entries k l) (omega arith)
 
-    pub held-more : (size i : ℕ) (held : List Bool) (v : Bool) → i < count b → i < size → undoTest b i ≡ true
-        → v ≡ cond (ltb (form b i) 3) false (holding (form b i) (getD held (left b i) false) (getD held (right b i) false))
-        → Held size i held → Held size (i + 1) (set held i v)
-    held-more size i held v c s t e f = record {
-      filled = filled-more noCompensation hold b false down size i held v c s e (f .filled);
-      passed = passed-more (undoTest b) (count b) i c t (f .passed);
+  module _ (down : Descending b) (size i : ℕ) (depths : List ℕ) (v : ℕ) (c : i < count b)
+      (e : v ≡ cond (ltb (form b i) 3) 0 (deeper (form b i) (getD depths (left b i) 0) (getD depths (right b i) 0))) (f : Kept size i depths) where
+    -- the table gives the node's depth
+    pub kept-entry : v ≡ depthAt b i
+    kept-entry = e ∙ fold-entry noDepth deep b down depths 0 i c (f .filled .entries)
+
+    pub kept-more : i < size → depthTest b i ≡ true → Kept size (i + 1) (set depths i v)
+    kept-more s t = record {
+      filled = filled-more noDepth deep b 0 down size i depths v c s e (f .filled);
+      passed = passed-more (depthTest b) (count b) i c t (f .passed);
     }

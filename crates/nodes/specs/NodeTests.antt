@@ -1,9 +1,10 @@
 -- The tests of a node body, in document 01's order: 6, the rules of the forms; 7, each node but the last named exactly once; 8, no
--- compensation in an undo side.
-use mathlib.Core.Bool.{Bool, true, false, not, _||_, cond}
+-- third level of compensations.
+use mathlib.Core.Bool.{Bool, false, cond}
 use mathlib.Core.List.{List}
-use Prim.Native.Nat.{ℕ, _+_, _-_}
+use Prim.Native.Nat.{ℕ, suc, _+_, _-_, max}
 use lib.Dec.{ltb, leb, eqb}
+use Rattle.process.specs.Depth.{mostUndos}
 use Rattle.blocks.specs.Bounded.{every, total, one}
 use Rattle.nodes.specs.Nodes.{count, form, left, right}
 use Rattle.nodes.specs.Fold.{foldAt}
@@ -27,21 +28,18 @@ timesNamed b j = total (count b) (λ i. naming j (form b i) (left b i) (right b 
 abbrev pub namedOk : List ℕ → Bool
 namedOk b = every (count b - 1) (λ j. eqb (timesNamed b j) 1)
 
--- whether a compensation stands at node i or below it
-abbrev pub holding : ℕ → Bool → Bool → Bool
-holding f l r = cond (eqb f 6) true (l || r)
+-- how deep the undo sides at node i and below it stand in one another: the right side of form 6 stands one deeper
+abbrev pub deeper : ℕ → ℕ → ℕ → ℕ
+deeper f l r = max l (cond (eqb f 6) (suc r) r)
 
-abbrev pub noCompensation : ℕ → Bool
-noCompensation i = false
+abbrev pub noDepth : ℕ → ℕ
+noDepth i = 0
 
-abbrev pub holds : List ℕ → ℕ → Bool
-holds b i = foldAt noCompensation (λ n. holding (form b n)) b i
-
-abbrev pub undoOk : ℕ → Bool → Bool
-undoOk f r = cond (eqb f 6) (not r) true
+abbrev pub depthAt : List ℕ → ℕ → ℕ
+depthAt b i = foldAt noDepth (λ n. deeper (form b n)) b i
 
 abbrev pub nestedOk : List ℕ → Bool
-nestedOk b = every (count b) (λ i. undoOk (form b i) (holds b (right b i)))
+nestedOk b = every (count b) (λ i. leb (depthAt b i) mostUndos)
 
 -- the number of the first check that fails, or 0
 abbrev pub nodesFault : ℕ → List ℕ → ℕ

@@ -1,8 +1,9 @@
 -- Document 01, kind 3: nodes, "three bytes each (form, left, right) .. numbered from 0". What the body may hold, over node numbers.
 use mathlib.Core.List.{List}
 use mathlib.Core.Path.{_≡_}
-use Prim.Native.Nat.{ℕ, _+_, _*_, _/_, _≤_, _<_}
+use Prim.Native.Nat.{ℕ, suc, _+_, _*_, _/_, _≤_, _<_}
 use lib.ListN.{length, getD}
+use Rattle.process.specs.Depth.{mostUndos}
 
 abbrev pub count : List ℕ → ℕ
 count b = length b / 3
@@ -61,12 +62,17 @@ pub data Under (b : List ℕ) (i : ℕ) : ℕ → Type 0 where
   itself : Under b i i
   named : {p j : ℕ} {s : Side} → Under b i p → Names b p s j → Under b i j
 
--- "No form 6 stands anywhere in the right side of another form 6."
-abbrev pub NotNested : List ℕ → Type 0
-NotNested b = (i j : ℕ) → i < count b → form b i ≡ 6 → Under b (right b i) j → j < count b → form b j ≡ 6 → ⊥
+-- compensations nested n deep: form 6 at node i, and n - 1 more, each in the right side of the one before it
+pub data Nested (b : List ℕ) : ℕ → ℕ → Type 0 where
+  alone : {i : ℕ} → i < count b → form b i ≡ 6 → Nested b 1 i
+  nested : {n i j : ℕ} → i < count b → form b i ≡ 6 → Under b (right b i) j → Nested b n j → Nested b (suc n) i
+
+-- Document 02 (N14): "An undo side may hold compensations whose own right sides hold none": no third level.
+abbrev pub NotTooDeep : List ℕ → Type 0
+NotTooDeep b = (i : ℕ) → Nested b (suc mostUndos) i → ⊥
 
 -- the three rules of a node body together
 pub record NodeRules (actions : ℕ) (b : List ℕ) : Type 0 where
   pub keep : FormRules actions b
   pub once : EachNamedOnce b
-  pub flat : NotNested b
+  pub shallow : NotTooDeep b

@@ -1,12 +1,12 @@
 // Kind 3: the nodes of a plan file.
 ghost use mathlib.Core.Path.{_≡_};
-ghost use mathlib.Core.Bool.{false, cond};
-ghost use Prim.Native.Nat.{_≤_, _<_};
+ghost use mathlib.Core.Bool.{cond};
+ghost use Prim.Native.Nat.{_≤_, _<_, max};
 ghost use lib.Dec.{ltb};
 ghost use lib.ListN.{length, getD};
 ghost use Rattle.nodes.specs.Nodes.{count, Descending};
 ghost use Rattle.nodes.specs.Node.{nodeAt};
-ghost use Rattle.nodes.specs.NodeTests.{nodeOk, formsOk, naming, timesNamed, namedOk, holding, undoOk, nestedOk, nodesFault};
+ghost use Rattle.nodes.specs.NodeTests.{nodeOk, formsOk, naming, timesNamed, namedOk, deeper, nestedOk, nodesFault};
 
 // A node: its form, and the two numbers beside it.
 pub struct Node {
@@ -124,61 +124,58 @@ fn named_ok(b: &[u8]) -> bool
     true
 }
 
-// Whether a compensation stands at a composite of the form `f` or below it, from whether one does below its parts.
-fn holding_of(f: u8, l: bool, r: bool) -> bool
-    ensures { λ k. ⌜ k ≡ holding f l r ⌝ }
+// The most levels of undos that a plan has, by document 02. The depths that are kept are at most that, so that one more does not wrap.
+const UNDOS: u8 = 2;
+
+// The larger of two depths.
+fn larger(l: u8, r: u8) -> u8
+    ensures { λ k. ⌜ k ≡ max l r ⌝ }
 {
-    if f == 6 {
-        return true;
+    if l < r {
+        return r;
     }
-    if l {
-        return true;
-    }
-    r
+    l
 }
 
-// Whether a compensation stands at the node or below it, by the table of the nodes before it.
-fn holds_at(held: &[bool; 63], x: Node) -> bool
-    requires { ⌜ (3 ≤ x .form → (x .left < 63) × (x .right < 63)) ⌝ }
-    ensures { λ k. ⌜ k ≡ cond (ltb (x .form) 3) false (holding (x .form) (getD (now (held .entry)) (x .left) false) (getD (now (held .entry)) (x .right) false)) ⌝ }
+// The depth of a composite of the form `f`, from its parts' depths.
+fn deeper_of(f: u8, l: u8, r: u8) -> u8
+    requires { ⌜ r < 255 ⌝ }
+    ensures { λ k. ⌜ k ≡ deeper f l r ⌝ }
+{
+    if f == 6 {
+        return larger(l, r + 1);
+    }
+    larger(l, r)
+}
+
+// The depth of the node, by the table of the nodes before it.
+fn depth_of(depths: &[u8; 63], x: Node) -> u8
+    requires { ⌜ (3 ≤ x .form → (x .left < 63) × (x .right < 63) × (getD (now depths) (x .right) 0 < 255)) ⌝ }
+    ensures { λ k. ⌜ k ≡ cond (ltb (x .form) 3) 0 (deeper (x .form) (getD (now (depths .entry)) (x .left) 0) (getD (now (depths .entry)) (x .right) 0)) ⌝ }
 {
     let f = x.form;
     if f < 3 {
-        return false;
+        return 0;
     }
     let l = x.left;
     let r = x.right;
-    holding_of(f, held[l], held[r])
+    deeper_of(f, depths[l], depths[r])
 }
 
-// Whether the undo side of the node, where it has one, holds no compensation, by the same table.
-fn undo_ok(held: &[bool; 63], x: Node) -> bool
-    requires { ⌜ (x .form ≡ 6 → x .right < 63) ⌝ }
-    ensures { λ k. ⌜ k ≡ undoOk (x .form) (getD (now (held .entry)) (x .right) false) ⌝ }
-{
-    let f = x.form;
-    let undo = x.right;
-    if f == 6 {
-        return !held[undo];
-    }
-    true
-}
-
-// Whether no compensation stands in the right side of another.
+// Whether no node is deeper than a plan may be.
 fn nested_ok(b: &[u8]) -> bool
     requires { ⌜ (length (now b) ≤ 189) × Descending (now b) ⌝ }
     ensures { λ r. ⌜ r ≡ nestedOk (now (b .entry)) ⌝ }
 {
     let n = b.len() / 3;
-    let mut held = [false; 63];
+    let mut depths = [0u8; 63];
     let mut i = 0;
     while i < n {
-        let x = node_at(b, i);
-        if !undo_ok(&held, x) {
+        let d = depth_of(&depths, node_at(b, i));
+        if UNDOS < d {
             return false;
         }
-        let v = holds_at(&held, x);
-        held[i] = v;
+        depths[i] = d;
         i += 1;
     }
     true

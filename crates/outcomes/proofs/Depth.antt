@@ -8,6 +8,7 @@ use lib.ListN.{take}
 use Rattle.process.specs.Process.{Status, ok, fail, Form, sequence, parallel, choice, compensation, handler, Process, done, leaf, node, Run}
 use Rattle.process.specs.Figure2.{both, Interleaving, neither, Forward, f-done, f-leaf, f-sequence, f-sequence-fails, f-parallel, f-choice-left, f-choice-right, f-compensation, f-compensation-fails, f-handler, f-handler-fails}
 use Rattle.outcomes.specs.Codes.{Code}
+use Rattle.outcomes.specs.Joins.{ended}
 use Rattle.outcomes.proofs.Levels.{Levels, l-none, l-run, whole}
 use Rattle.process.specs.Depth.{rightDepth, undoDepth}
 
@@ -98,14 +99,6 @@ pub cut-whole : (n : ℕ) {P : Process} {c : Code} {rs : List Run} → levels P 
 cut-whole zero h l = sym (no-levels h l)
 cut-whole (suc n) h l-none = refl
 cut-whole (suc n) h (l-run {p = p} d l) = ap (λ r. p ++ r) (cut-whole n (omega (arith, undo-levels d)) l)
-
--- a code that failed at each of n levels has one level more, at which it ended
-abbrev pub ended : ℕ → Code → Code
-ended zero [] = ok ∷ []
-ended (suc n) [] = []
-ended n (ok ∷ c) = ok ∷ c
-ended zero (fail ∷ c) = fail ∷ c
-ended (suc n) (fail ∷ c) = fail ∷ ended n c
 
 pub end-levels : (n : ℕ) {P : Process} {c : Code} {rs : List Run} → levels P ≤ n → Levels P c rs → (ps : List Run) × Levels P (ended n c) ps × (whole ps ≡ whole rs)
 end-levels zero {P} h l-none = ([] ∷ [], l-run (quiet-run P h .1) l-none, refl)

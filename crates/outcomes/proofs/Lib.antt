@@ -5,9 +5,13 @@ pub mod Depth
 pub mod Numbers
 pub mod Table
 pub mod Cells
-pub mod TwoLevels
+pub mod Nodes
 pub mod Members
-pub mod Shown
+pub mod Parts
+pub mod AnyLevels
 pub mod Families
 pub mod ActionSets
 pub mod OutcomeChart
+pub mod ThreeLevels
+pub mod VerdictSets
+pub mod InRows

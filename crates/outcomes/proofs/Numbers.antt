@@ -1,20 +1,16 @@
--- The numbers of codes: the code of a number at n levels, and what a number does not see of a code.
+-- The numbers of codes: each is that of its code, and what a number does not see of a code.
 use mathlib.Core.Path.{_≡_, refl, _∙_, ap}
 use mathlib.Core.Bool.{Bool, true, false, cond}
 use mathlib.Core.List.{[], _∷_}
 use Prim.Native.Nat.{ℕ, zero, suc, _+_, _-_, _≤_, _<_}
 use native.Mathlib.Nat.{add-sub-cancel-left}
 use native.Mathlib.Omega.{arith}
-use borrow.Author.Tests.{lt-ltb, le-ltb}
+use borrow.Author.Tests.{lt-ltb, le-ltb, ltb-true, ltb-false}
 use lib.Dec.{ltb}
 use lib.ListN.{take}
 use Rattle.process.specs.Process.{Status, ok, fail}
 use Rattle.outcomes.specs.Codes.{Code, size, number}
-
-abbrev pub codeOf : ℕ → ℕ → Code
-codeOf zero k = []
-codeOf (suc n) zero = []
-codeOf (suc n) (suc k) = cond (ltb k (size n)) (ok ∷ codeOf n k) (fail ∷ codeOf n (k - size n))
+use Rattle.outcomes.specs.Joins.{codeOf}
 
 pub number-small : (n : ℕ) (c : Code) → number n c < size n
 number-small zero c = omega arith
@@ -36,6 +32,17 @@ pub code-short : (n k : ℕ) → take n (codeOf n k) ≡ codeOf n k
 code-short zero k = refl
 code-short (suc n) zero = refl
 code-short (suc n) (suc k) = either-short n (ltb k (size n)) (code-short n k) (code-short n (k - size n))
+
+number-either : (n : ℕ) (b : Bool) (k : ℕ) (c d : Code) → (b ≡ true → number n c ≡ k) → (b ≡ false → size n + number n d ≡ k) → number (suc n) (cond b (ok ∷ c) (fail ∷ d)) ≡ suc k
+number-either n true k c d h g = ap suc (h refl)
+number-either n false k c d h g = ap suc (g refl)
+
+pub number-of-code : (n k : ℕ) → k < size n → number n (codeOf n k) ≡ k
+number-of-code zero k h = omega arith
+number-of-code (suc n) zero h = refl
+number-of-code (suc n) (suc k) h =
+    number-either n (ltb k (size n)) k (codeOf n k) (codeOf n (k - size n)) (λ e. number-of-code n k (ltb-true k (size n) e))
+    (λ e. let z = ltb-false k (size n) e in omega (arith, number-of-code n (k - size n) (omega arith)))
 
 pub number-step : (n : ℕ) (s : Status) (c d : Code) → number n c ≡ number n d → number (suc n) (s ∷ c) ≡ number (suc n) (s ∷ d)
 number-step n ok c d e = ap suc e

@@ -10,7 +10,8 @@ use borrow.Author.Tests.{ltb-false}
 use Rattle.outcomes.specs.Cells.{cell}
 use Rattle.outcomes.specs.Table.{listed, chart, cellIn}
 
-abbrev below : ℕ → (ℕ → Bool) → Bool
+-- a test at each number below n
+abbrev pub below : ℕ → (ℕ → Bool) → Bool
 below zero p = true
 below (suc n) p = p 0 && below n (λ k. p (suc k))
 
@@ -18,7 +19,7 @@ pub both-hold : (a b : Bool) → T (a && b) → T a × T b
 both-hold true b t = (tt, t)
 both-hold false b t = absurd t
 
-at-number : (n : ℕ) (p : ℕ → Bool) → T (below n p) → (k : ℕ) → k < n → T (p k)
+pub at-number : (n : ℕ) (p : ℕ → Bool) → T (below n p) → (k : ℕ) → k < n → T (p k)
 at-number zero p t k h = absurd (omega arith)
 at-number (suc n) p t zero h = both-hold (p 0) (below n (λ k. p (suc k))) t .0
 at-number (suc n) p t (suc k) h = at-number n (λ k. p (suc k)) (both-hold (p 0) (below n (λ k. p (suc k))) t .1) k (omega arith)
@@ -40,7 +41,7 @@ pub at-cell : (p : ℕ → ℕ → ℕ → Bool) → T (all-cells p) → {form l
 at-cell p t {form} {l} {r} = at-place (λ k form l r. T (p form l r)) (at-number 245 (λ k. p (k / 49 + 3) (k / 7 % 7) (k % 7)) t) form l r
 
 -- what is listed stands at its place
-getD-listed : (n : ℕ) (f : ℕ → ℕ) (k : ℕ) → k < n → getD (listed n f) k 0 ≡ f k
+pub getD-listed : (n : ℕ) (f : ℕ → ℕ) (k : ℕ) → k < n → getD (listed n f) k 0 ≡ f k
 getD-listed zero f k h = absurd (omega arith)
 getD-listed (suc n) f zero h = refl
 getD-listed (suc n) f (suc k) h = getD-listed n (λ k. f (suc k)) k (omega arith)
@@ -49,13 +50,13 @@ in-chart : (form l r : ℕ) → 3 ≤ form → form ≤ 7 → l < 7 → r < 7 �
 unfolding chart
 in-chart = at-place (λ k form l r. getD chart k 0 ≡ cell form l r) (getD-listed 245 (λ k. cell (k / 49 + 3) (k / 7 % 7) (k % 7)))
 
-unless : (b : Bool) (x y : ℕ) → (b ≡ false → x ≡ y) → cond b 7 x ≡ cond b 7 y
-unless true x y h = refl
-unless false x y h = h refl
+pub unless : (b : Bool) (z x y : ℕ) → (b ≡ false → x ≡ y) → cond b z x ≡ cond b z y
+unless true z x y h = refl
+unless false z x y h = h refl
 
 -- what the chart gives is the cell, inside and outside of it
 pub cell-in-chart : (form : ℕ) → cellIn chart form ≡ cell form
 unfolding cellIn cell
 cell-in-chart form = fun-ext (λ l. fun-ext (λ r.
-    unless (ltb form 3) _ _ (λ e₁. unless (ltb 7 form) _ _ (λ e₂. unless (ltb 6 l) _ _ (λ e₃. unless (ltb 6 r) _ _ (λ e₄.
+    unless (ltb form 3) 7 _ _ (λ e₁. unless (ltb 7 form) 7 _ _ (λ e₂. unless (ltb 6 l) 7 _ _ (λ e₃. unless (ltb 6 r) 7 _ _ (λ e₄.
     in-chart form l r (ltb-false _ _ e₁) (ltb-false _ _ e₂) (omega (arith, ltb-false 6 l e₃)) (omega (arith, ltb-false 6 r e₄)) ∙ simp (e₁, e₂, e₃, e₄)))))))

@@ -3,5 +3,11 @@ pub mod Sets
 pub mod Chart
 pub mod Cells
 pub mod Table
+pub mod Joins
+pub mod LevelCells
 pub mod Families
+pub mod ThreeLevels
+pub mod Rows
+pub mod AnyLevels
 pub mod OutcomeChart
+pub mod VerdictSets

@@ -287,15 +287,15 @@ const CHART: [u8; 245] = [
     6,
 ];
 
-// The whole chart, for a caller that looks up many cells.
-pub fn table() -> [u8; 245]
+// The whole chart.
+fn table() -> [u8; 245]
     ensures { λ r. ⌜ r ≡ chart ⌝ }
 {
     CHART
 }
 
 // What a lent table gives a node of the form for the codes of its sides: 7 where these are no codes, or it is no such form.
-pub fn cell_in(table: &[u8; 245], form: u8, left: u8, right: u8) -> u8
+fn cell_in(table: &[u8; 245], form: u8, left: u8, right: u8) -> u8
     ensures { λ r. ⌜ r ≡ cellIn (now (table .entry)) form left right ⌝ }
 {
     if form < 3 {

@@ -12,9 +12,10 @@ use Rattle.outcomes.specs.Sets.{setOf}
 use Rattle.plan.specs.PlanFile.{Runnable}
 use Rattle.plan.specs.Tree.{processOf}
 use Rattle.plan.proofs.Tree.{some-leaf, drawn}
+use Rattle.process.specs.Depth.{mostUndos}
 use Rattle.runs.specs.Cells.{ending, Outcomes, noneRun, outcomesAfter, Holds, toldNext}
 use Rattle.runs.specs.Beginnings.{Begins}
-use Rattle.runs.proofs.TwoLevels.{two-levels}
+use Rattle.runs.proofs.ThreeLevels.{three-levels}
 use Rattle.state.specs.State.{freshTable}
 use Rattle.job.specs.Offer.{statusNumber}
 use Rattle.job.proofs.Outcomes.{Stands, stands-fresh, stands-more}
@@ -51,7 +52,7 @@ leaving-fresh types b S q t c e = record {
 
 -- the outcome of the last entry
 last-outcome : (w : Run) (n : ℕ) (s : Status) → outcomesAfter noneRun (w ++ (entry n s ∷ [])) n ≡ ending s
-last-outcome w n s = ap (λ (f : Outcomes). f n) (two-levels .at-entry noneRun w n s) ∙ rw (eq-eqb n n refl)
+last-outcome w n s = ap (λ (f : Outcomes). f n) (three-levels .at-entry noneRun w n s) ∙ rw (eq-eqb n n refl)
 
 module _ (types b : List ℕ) (S k : ℕ) where
   -- r is a complete run of the plan that leaves S with k failed entries; w goes on to such a run
@@ -98,7 +99,7 @@ module _ (types b : List ℕ) (S k : ℕ) (known : Searched types b S k) where
         omega (arith, at-least (x .run) (x .status) (x .complete) (x .leaves), x .fails)
 
     -- and only there, where the leaf is told as next
-    pub fits-leads : Begins (processOf types b) w → Holds (toldNext 1 (processOf types b) w) n → fewestLeft types b S (set table n (statusNumber s)) ≡ k
+    pub fits-leads : Begins (processOf types b) w → Holds (toldNext mostUndos (processOf types b) w) n → fewestLeft types b S (set table n (statusNumber s)) ≡ k
         → LeadsOn types b S k (w ++ (entry n s ∷ []))
     fits-leads begun h e =
         let told = told-begins types b (known .plan) in

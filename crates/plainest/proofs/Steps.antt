@@ -9,6 +9,7 @@ use native.Mathlib.Omega.{arith}
 use borrow.Author.Tests.{eqb-true, eq-eqb, ltb-true, ltb-false}
 use lib.Dec.{eqb, ltb}
 use Rattle.process.specs.Process.{Status, ok, fail, entry, Run}
+use Rattle.process.specs.Depth.{mostUndos}
 use Rattle.process.specs.Process as process
 use Rattle.nodes.specs.Nodes.{count}
 use Rattle.plan.specs.Tree.{processOf}
@@ -64,7 +65,7 @@ module _ (types b : List ℕ) (S k : ℕ) (known : Searched types b S k) where
     abbrev fit : ℕ → ℕ → Bool
     fit n o = fits types b S k table n o
 
-    next-is : next ≡ toldNext 1 (processOf types b) w
+    next-is : next ≡ toldNext mostUndos (processOf types b) w
     next-is = ap (λ (t : Told). t .next) (told-of types b (known .plan) w table stands)
 
     goes-next : (n : ℕ) (s : Status) → Goes w n s → isNext next n ≡ true

@@ -9,7 +9,7 @@ use native.Mathlib.Omega.{arith}
 use Rattle.blocks.proofs.Bounded.{decide}
 use Rattle.bodies.specs.Types.{Types, typesOk}
 use Rattle.bodies.specs.Pairs.{Pairs, pairsOk}
-use Rattle.nodes.specs.Nodes.{FormRules, NotNested, NodeRules}
+use Rattle.nodes.specs.Nodes.{FormRules, NotTooDeep, NodeRules}
 use Rattle.nodes.specs.NodeTests.{formsOk, namedOk, nestedOk, nodesFault}
 use Rattle.bodies.specs.Rule.{Rule, ruleOk}
 use Rattle.plan.specs.PlanFile.{TypesSize, PairsSize, NodesSize, RuleSize}
@@ -18,7 +18,7 @@ use Rattle.plan.specs.Reading.{lengthOk, fault}
 use Rattle.bodies.proofs.TypesPairs.{types-say, pairs-say}
 use Rattle.nodes.proofs.Forms.{forms-say, descending}
 use Rattle.nodes.proofs.Named.{named-say}
-use Rattle.nodes.proofs.Under.{nested-say}
+use Rattle.nodes.proofs.Depth.{nested-say}
 use Rattle.bodies.proofs.Postfix.{rule-say}
 use Rattle.plan.proofs.Lengths.{sized-bytes, sized-pairs, sized-nodes}
 
@@ -68,17 +68,17 @@ module _ (actions : ℕ) (b : List ℕ) where
   three true false z h = absurd (omega arith)
   three false y z h = absurd (omega arith)
 
-  nested : FormRules actions b → (nestedOk b ≡ true) ↔ NotNested b
+  nested : FormRules actions b → (nestedOk b ≡ true) ↔ NotTooDeep b
   nested keep = nested-say b (descending actions b (forms-say actions b .1 keep))
 
   in-order : nodesFault actions b ≡ 0 → NodeRules actions b
   in-order h =
       let (x, y, z) = three (formsOk actions b) (namedOk b) (nestedOk b) h in
       let keep = forms-say actions b .0 x in
-      record { keep = keep; once = named-say b .0 y; flat = nested keep .0 z }
+      record { keep = keep; once = named-say b .0 y; shallow = nested keep .0 z }
 
   faultless : NodeRules actions b → nodesFault actions b ≡ 0
-  faultless h = rw (forms-say actions b .1 (h .keep), named-say b .1 (h .once), nested (h .keep) .1 (h .flat))
+  faultless h = rw (forms-say actions b .1 (h .keep), named-say b .1 (h .once), nested (h .keep) .1 (h .shallow))
 
   abbrev Numbered : ℕ → Type 0
   Numbered x = (x ≡ 0 → ⊥) → NodesFault actions b x

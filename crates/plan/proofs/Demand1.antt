@@ -15,7 +15,7 @@ use Rattle.plan.proofs.Exactly.{accepted-exactly, refused-exactly, acce
 use Rattle.plan.proofs.Prefix.{beginning-decides}
 use Rattle.plan.proofs.InBlocks.{in-blocks}
 use Rattle.plan.proofs.Tree.{drawn}
-use Rattle.plan.proofs.Largest.{largest, largest-bytes, largest-long, largest-layout, largest-accepted}
+use Rattle.plan.proofs.Largest.{largest, largest-file, largest-long}
 
 laid : (s : List ℕ) (l : Layout) → readOf s ≡ Accepted l → Laid mostActions mostPairs s l
 laid s l h = accepted-laid mostActions mostPairs s l h
@@ -46,7 +46,7 @@ demand1 = record {
   blocks = in-blocks;
   holds = λ s l h. accepted-holds mostActions mostPairs (omega arith) s l h;
   most = λ s l h. most-bytes mostActions mostPairs s l (laid s l h);
-  largest = (largest, accepted-exactly mostActions mostPairs (omega arith) largest largest-bytes .0 (largest-layout, largest-accepted), largest-long);
+  largest = (largest, largest-file, largest-long);
   row = λ s l h. in-a-row s l (laid s l h);
   tree = λ s l h. drawn (bytesOf s (l .types)) (bytesOf s (l .nodes)) (runnable s l h);
   beginning = λ s n h k. beginning-decides mostActions mostPairs s n k (omega arith);

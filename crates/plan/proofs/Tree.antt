@@ -1,24 +1,25 @@
 -- The process that a node list draws: its leaves are the leaf nodes under it, they are distinct, it is as a plan writes it, and its undos
--- are one level deep. By induction over the nodes.
-use mathlib.Core.Path.{_≡_, refl, sym, ap, subst, _∙_}
+-- are as deep as its nodes. By induction over the nodes.
+use mathlib.Core.Path.{_≡_, refl, sym, ap, subst}
 use mathlib.Core.Bool.{Bool, true, false, cond}
 use mathlib.Core.List.{List}
 use mathlib.Core.Logic.{_↔_, _⊎_, inl, inr}
-use Prim.Native.Nat.{ℕ, _-_, _≤_, _<_, max}
+use Prim.Native.Nat.{ℕ, suc, _-_, _≤_, _<_, max}
 use native.Mathlib.Omega.{arith}
 use lib.Dec.{eqb}
-use borrow.Author.Tests.{eqb-true, eqb-false}
-use Rattle.blocks.proofs.Bounded.{decide}
+use borrow.Author.Tests.{eqb-true}
 use Rattle.process.specs.Process.{Kind, sequence, parallel, choice, compensation, handler, Process, leaf, node}
 use Rattle.process.specs.Forms.{formOf}
 use Rattle.process.specs.Leaves.{AsWritten, SomeLeaf, HasLeaf, Apart, Distinct}
 use Rattle.process.specs.Depth.{rightDepth, undoDepth}
-use Rattle.nodes.specs.Nodes.{count, form, left, right, Side, on-left, on-right, Names, EachNamedOnce, Under, itself, NotNested, Descending}
+use Rattle.nodes.specs.Nodes.{count, form, left, right, Side, on-left, on-right, Names, EachNamedOnce, Under, itself, Descending}
+use Rattle.nodes.specs.NodeTests.{deeper, noDepth, depthAt}
 use Rattle.plan.specs.Tree.{leafKind, leafOf, compositeOf, processAt, processOf}
 use Rattle.plan.specs.PlanFile.{RunnableWithin}
 use Rattle.plan.specs.Demand1.{Drawn}
-use Rattle.nodes.proofs.Fold.{node-ind, fold-leaf, fold-node}
+use Rattle.nodes.proofs.Fold.{node-ind, fold-leaf, fold-node, fold-map}
 use Rattle.nodes.proofs.Under.{through, first, all-under-last, apart}
+use Rattle.nodes.proofs.Depth.{depth-most}
 
 module _ (types b : List ℕ) (down : Descending b) where
   abbrev at : ℕ → Process
@@ -99,45 +100,28 @@ module _ (types b : List ℕ) (down : Descending b) where
             let (x, y) = down i c f in
             apart b down once (names-left i c f) (names-right i c f) (leaf-node n (left b i) (omega arith) h .under) (leaf-node n (right b i) (omega arith) k .under)
 
-  -- no compensation stands at node i or below it
-  abbrev Bare : ℕ → Type 0
-  Bare i = (j : ℕ) → Under b i j → j < count b → form b j ≡ 6 → ⊥
+-- only a compensation's right side is a level deeper
+right-depth : (f d : ℕ) → rightDepth (formOf f) d ≡ cond (eqb f 6) (suc d) d
+right-depth f d = go (eqb f 3) (eqb f 4) (eqb f 5) (eqb f 6) refl refl refl refl
+  where
+    go : (s p c k : Bool) → eqb f 3 ≡ s → eqb f 4 ≡ p → eqb f 5 ≡ c → eqb f 6 ≡ k
+        → rightDepth (cond s sequence (cond p parallel (cond c choice (cond k compensation handler)))) d ≡ cond k (suc d) d
+    go true p c true e e′ e″ e‴ = absurd (omega (arith, eqb-true f 3 e, eqb-true f 6 e‴))
+    go true p c false e e′ e″ e‴ = refl
+    go false true c true e e′ e″ e‴ = absurd (omega (arith, eqb-true f 4 e′, eqb-true f 6 e‴))
+    go false true c false e e′ e″ e‴ = refl
+    go false false true true e e′ e″ e‴ = absurd (omega (arith, eqb-true f 5 e″, eqb-true f 6 e‴))
+    go false false true false e e′ e″ e‴ = refl
+    go false false false true e e′ e″ e‴ = refl
+    go false false false false e e′ e″ e‴ = refl
 
-  -- only a compensation's right side is a level deeper
-  other-depth : (f d : ℕ) → (f ≡ 6 → ⊥) → rightDepth (formOf f) d ≡ d
-  other-depth f d h = go (eqb f 3) (eqb f 4) (eqb f 5) (eqb f 6) refl
-    where
-      go : (s p c k : Bool) → eqb f 6 ≡ k → rightDepth (cond s sequence (cond p parallel (cond c choice (cond k compensation handler)))) d ≡ d
-      go true p c k e = refl
-      go false true c k e = refl
-      go false false true k e = refl
-      go false false false true e = absurd (h (eqb-true f 6 e))
-      go false false false false e = refl
-
-  bare-depth : (i : ℕ) → i < count b → Bare i → undoDepth (at i) ≡ 0
-  bare-depth = node-ind b down (λ i. Bare i → undoDepth (at i) ≡ 0)
-      (λ i c f h. ap undoDepth (process-leaf i f))
-      (λ i c f l r h.
-      let on-the-left = l (λ j u. h j (through b (names-left i c f) u)) in
-      let on-the-right = r (λ j u. h j (through b (names-right i c f) u)) in
-      ap undoDepth (process-node i c f) ∙ rw (other-depth (form b i) (undoDepth (at (right b i))) (h i itself c), on-the-left, on-the-right))
-
-  module _ (flat : NotNested b) where
-    pub shallow : (i : ℕ) → i < count b → undoDepth (at i) ≤ 1
-    shallow = property (λ P. undoDepth P ≤ 1) (λ i. omega arith) (λ i c f l r. go i c f l r (decide (eqb (form b i) 6)))
-      where
-        most : (x y : ℕ) → x ≤ 1 → y ≤ 1 → max x y ≤ 1
-        most x y h k = omega arith
-
-        go : (i : ℕ) → i < count b → 3 ≤ form b i → undoDepth (at (left b i)) ≤ 1 → undoDepth (at (right b i)) ≤ 1
-            → (eqb (form b i) 6 ≡ true) ⊎ (eqb (form b i) 6 ≡ false)
-            → max (undoDepth (at (left b i))) (rightDepth (formOf (form b i)) (undoDepth (at (right b i)))) ≤ 1
-        go i c f l r (inl e) =
-            let six = eqb-true (form b i) 6 e in
-            let (x, y) = down i c f in
-            let none = bare-depth (right b i) (omega arith) (λ j u p q. flat i j c six u p q) in
-            most _ _ l (rw (six, none) (omega arith))
-        go i c f l r (inr e) = most _ _ l (rw (other-depth (form b i) (undoDepth (at (right b i))) (eqb-false (form b i) 6 e)) r)
+-- the depth of a node is that of its process
+depth-of-process : (types b : List ℕ) (i : ℕ) → undoDepth (processAt types b i) ≡ depthAt b i
+depth-of-process types b i =
+    fold-map undoDepth (leafOf types b) (compositeOf b) noDepth (λ n. deeper (form b n)) b
+    (λ n. refl)
+    (λ n P Q. ap (max (undoDepth P)) (right-depth (form b n) (undoDepth Q)))
+    (suc i) i
 
 module _ {actionLimit : ℕ} (types b : List ℕ) (r : RunnableWithin actionLimit types b) where
   pub parts-smaller : Descending b
@@ -167,5 +151,5 @@ module _ {actionLimit : ℕ} (types b : List ℕ) (r : RunnableWithin actionLimi
     );
     written = written types b parts-smaller (count b - 1) last-present;
     distinct = distinct types b parts-smaller (r .nodes-hold .once) (count b - 1) last-present;
-    flat = shallow types b parts-smaller (r .nodes-hold .flat) (count b - 1) last-present;
+    shallow = rw (depth-of-process types b (count b - 1)) (depth-most b parts-smaller (r .nodes-hold .shallow) (count b - 1) last-present);
   }

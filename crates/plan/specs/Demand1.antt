@@ -6,7 +6,7 @@ use mathlib.Core.Logic.{_↔_}
 use Prim.Native.Nat.{ℕ, _+_, _-_, _*_, _≤_, _<_}
 use lib.ListN.{length, take}
 use Rattle.process.specs.Leaves.{AsWritten, HasLeaf, Distinct}
-use Rattle.process.specs.Depth.{Flat}
+use Rattle.process.specs.Depth.{Shallow}
 use Rattle.blocks.specs.Block.{block}
 use Rattle.bodies.specs.Pairs.{Pairs, pairCount, first}
 use Rattle.nodes.specs.Nodes.{count, form, Under}
@@ -33,14 +33,14 @@ InBlocks s l = s ≡ block 1 (bytesOf s (l .types)) ++ (block 2 (bytesOf s (l .p
 abbrev pub Holds : ℕ → ℕ → List ℕ → Layout → Type 0
 Holds actionLimit pairLimit s l = Bodies actionLimit pairLimit (bytesOf s (l .types)) (bytesOf s (l .pairs)) (bytesOf s (l .nodes)) (bytesOf s (l .rule))
 
--- the process of a node list: every node is in the tree of the last one, its leaves are the nodes of forms 0 to 2, each once, and no
--- compensation stands in an undo side
+-- the process of a node list: every node is in the tree of the last one, its leaves are the nodes of forms 0 to 2, each once, and it
+-- has no more levels of undos than a plan may have
 pub record Drawn (types nodes : List ℕ) : Type 0 where
   pub whole : (j : ℕ) → j < count nodes → Under nodes (count nodes - 1) j
   pub leaves : (n : ℕ) → HasLeaf n (processOf types nodes) ↔ ((n < count nodes) × (form nodes n < 3))
   pub written : AsWritten (processOf types nodes)
   pub distinct : Distinct (processOf types nodes)
-  pub flat : Flat (processOf types nodes)
+  pub shallow : Shallow (processOf types nodes)
 
 pub record Demand1 : Type 0 where
   -- a file is accepted exactly where it is a plan file

@@ -8,7 +8,7 @@ use lib.ListN.{length}
 use Rattle.blocks.specs.Block.{two, block}
 use Rattle.bodies.specs.Types.{Types}
 use Rattle.bodies.specs.Pairs.{Pairs}
-use Rattle.nodes.specs.Nodes.{FormRules, EachNamedOnce, NotNested}
+use Rattle.nodes.specs.Nodes.{FormRules, EachNamedOnce, NotTooDeep}
 use Rattle.bodies.specs.Rule.{Rule}
 use Rattle.plan.specs.PlanFile.{TypesSize, PairsSize, NodesSize, RuleSize, TypesBody, PairsBody, NodesBody, Bodies}
 
@@ -43,8 +43,8 @@ pub data NodesFault (actions : ℕ) (nodes : List ℕ) : ℕ → Type 0 where
   six : (FormRules actions nodes → ⊥) → NodesFault actions nodes 6
   -- "node not named exactly once"
   seven : FormRules actions nodes → (EachNamedOnce nodes → ⊥) → NodesFault actions nodes 7
-  -- "compensation in an undo side"
-  eight : FormRules actions nodes → EachNamedOnce nodes → (NotNested nodes → ⊥) → NodesFault actions nodes 8
+  -- by document 02 (N14), "8 now falls only on a third level"
+  eight : FormRules actions nodes → EachNamedOnce nodes → (NotTooDeep nodes → ⊥) → NodesFault actions nodes 8
 
 -- 9: "rule malformed"
 abbrev pub RuleFault : ℕ → List ℕ → ℕ → Type 0

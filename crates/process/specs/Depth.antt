@@ -16,6 +16,13 @@ undoDepth done = zero
 undoDepth (leaf n k) = zero
 undoDepth (node f P Q) = max (undoDepth P) (rightDepth f (undoDepth Q))
 
--- "No form 6 stands anywhere in the right side of another form 6."
+-- Document 01's "No form 6 stands anywhere in the right side of another form 6": the plans that the outcome chart is for.
 abbrev pub Flat : Process → Type 0
 Flat P = undoDepth P ≤ 1
+
+-- How many levels of undos a plan has at most, by document 02 (N14): "An undo side may hold compensations whose own right sides hold none."
+abbrev pub mostUndos : ℕ
+mostUndos = 2
+
+abbrev pub Shallow : Process → Type 0
+Shallow P = undoDepth P ≤ mostUndos

@@ -10,5 +10,5 @@ pub mod Shown
 pub mod Counts
 pub mod Over
 pub mod Beginnings
-pub mod TwoLevels
+pub mod ThreeLevels
 pub mod Examples

@@ -1,3 +1,3 @@
 pub mod Cells
 pub mod Beginnings
-pub mod TwoLevels
+pub mod ThreeLevels

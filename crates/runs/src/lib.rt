@@ -17,9 +17,11 @@ pub struct Cell {
     pub next: u64,
 }
 
+// A process by its levels: its forward run, its undo, and the undo of its undo.
 pub struct Cells {
     pub forward: Cell,
     pub undo: Cell,
+    pub again: Cell,
 }
 
 // What the runner tells of the whole process.

@@ -7,7 +7,7 @@ use native.Mathlib.Omega.{arith}
 use lib.Dec.{eqb, ltb, ltb→lt}
 use borrow.Author.Tests.{eqb-true}
 use Rattle.family.proofs.Numbers.{at-number}
-use Rattle.outcomes.specs.Cells.{cell}
+use Rattle.outcomes.specs.ThreeLevels.{cell3}
 use Rattle.nodes.specs.Nodes.{count, form, left, right}
 use Rattle.plan.specs.PlanFile.{Runnable}
 use Rattle.plan.specs.Tree.{leafKind, processAt}
@@ -44,7 +44,7 @@ module _ (types b : List ℕ) (r : Runnable types b) (n : ℕ) (c : n < count b)
       (computes .of-leaf (leafSet b) n k s set-small (rw (t, type-finishes (leafType types b n), type-fails (leafType types b n)) l))
 
   pub node-exact : (x y s : Summary) → 3 ≤ form b n → Exact (leafSet b) x (processAt types b (left b n)) → Exact (leafSet b) y (processAt types b (right b n))
-      → NodeSummary (cell (form b n)) x y s → Exact (leafSet b) s (processAt types b n)
+      → NodeSummary (cell3 (form b n)) x y s → Exact (leafSet b) s (processAt types b n)
   node-exact x y s f p q u =
       rw (process-node types b (parts-smaller types b r) n c f)
       (computes .of-node (leafSet b) (form b n) _ _ x y s f (r .nodes-hold .keep n c .known) p q u)

@@ -1,2 +1,3 @@
 pub mod PlanSets
+pub mod Places
 pub mod Fill

@@ -1,10 +1,10 @@
--- The action sets of a plan's nodes: document 01's "Outcome chart" over the nodes of a plan file.
+-- The action sets of a plan's nodes: the outcome chart of three levels over the nodes of a plan file.
 use mathlib.Core.Bool.{cond}
 use mathlib.Core.List.{List}
 use Prim.Native.Nat.{ℕ, _^_}
 use lib.Dec.{eqb}
 use Rattle.outcomes.specs.Sets.{Sets, numbers}
-use Rattle.outcomes.specs.Families.{planSets}
+use Rattle.outcomes.specs.ThreeLevels.{planSets}
 use Rattle.nodes.specs.Nodes.{form, left}
 use Rattle.plan.specs.Tree.{processOf}
 

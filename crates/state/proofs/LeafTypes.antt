@@ -7,7 +7,7 @@ use native.Mathlib.Omega.{arith}
 use lib.Dec.{eqb}
 use lib.ListN.{getD}
 use borrow.Author.Tests.{eqb-true, eqb-false}
-use Rattle.process.specs.Process.{Status, ok, fail, finishes, fails, either, permits}
+use Rattle.process.specs.Process.{ok, fail, finishes, fails, either, permits}
 use Rattle.nodes.specs.Nodes.{form, left}
 use Rattle.plan.specs.Tree.{typeKind, leafKind}
 use Rattle.state.specs.State.{leafType}

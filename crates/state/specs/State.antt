@@ -7,7 +7,7 @@ use lib.Dec.{ltb, eqb}
 use lib.ListN.{getD, set, replicate}
 use Rattle.nodes.specs.Nodes.{count, form, left}
 use Rattle.nodes.specs.Fold.{foldAt}
-use Rattle.runs.specs.TwoLevels.{leafTwo, nodeTwo, toldTwo}
+use Rattle.runs.specs.ThreeLevels.{leafThree, nodeThree, toldThree}
 use Rattle.runs.specs.declared.Ended.{Ended}
 use Rattle.runs.specs.declared.Ended.the-variants.{Open, Succeeded, Failed}
 use Rattle.runs.specs.declared.Cells.{Cells}
@@ -20,17 +20,17 @@ outcomeOf x = cond (eqb x 0) Open (cond (eqb x 1) Succeeded Failed)
 
 -- The cells of node i: one fold over the nodes.
 abbrev pub leafCells : List ℕ → ℕ → Cells
-leafCells table i = leafTwo i (outcomeOf (getD table i 0))
+leafCells table i = leafThree i (outcomeOf (getD table i 0))
 
 abbrev pub nodeCells : List ℕ → ℕ → Cells → Cells → Cells
-nodeCells b i x y = nodeTwo (form b i) x y
+nodeCells b i x y = nodeThree (form b i) x y
 
 abbrev pub cellsAt : List ℕ → List ℕ → ℕ → Cells
 cellsAt b table i = foldAt (leafCells table) (nodeCells b) b i
 
 -- What the whole process tells.
 unfoldable pub toldBy : List ℕ → List ℕ → Told
-toldBy b table = toldTwo (cellsAt b table (count b - 1))
+toldBy b table = toldThree (cellsAt b table (count b - 1))
 
 -- The type of a leaf: its action's, and as a skip always succeeds and a throw always fails, 1 and 2, which are their forms' numbers.
 abbrev pub leafType : List ℕ → List ℕ → ℕ → ℕ

@@ -3,14 +3,14 @@ use runs::Cells;
 use runs::Ended;
 use runs::Told;
 ghost use mathlib.Core.Path.{_≡_};
-ghost use Prim.Native.Nat.{_<_, _≤_};
+ghost use Prim.Native.Nat.{_<_};
 ghost use lib.Dec.{ltb};
 ghost use lib.ListN.{length};
 ghost use mathlib.Core.Bool.{cond};
-ghost use Rattle.runs.specs.TwoLevels.{leafTwo, nodeTwo};
+ghost use Rattle.runs.specs.ThreeLevels.{leafThree, nodeThree};
 ghost use Rattle.plan.specs.PlanFile.{Runnable};
 ghost use Rattle.nodes.specs.Nodes.{count, FormRules};
-ghost use Rattle.state.specs.State.{outcomeOf, cellsAt, toldBy, leafType, typePermits, isNext, leafPermits, mayCome, stateAfter};
+ghost use Rattle.state.specs.State.{outcomeOf, toldBy, leafType, typePermits, leafPermits, mayCome, stateAfter};
 
 // An entry of a run: the leaf's node number, then 1 (finished) or 2 (failed).
 pub struct Entry {
@@ -38,7 +38,7 @@ fn outcome_of(x: u8) -> Ended
 
 // The cells of node i, of the form `f`: a leaf's by its outcome, a composite's from those of its parts.
 fn cell_of(i: usize, f: u8, outcome: u8, x: Cells, y: Cells) -> Cells
-    ensures { λ r. ⌜ r ≡ cond (ltb f 3) (leafTwo i (outcomeOf outcome)) (nodeTwo f x y) ⌝ }
+    ensures { λ r. ⌜ r ≡ cond (ltb f 3) (leafThree i (outcomeOf outcome)) (nodeThree f x y) ⌝ }
 {
     if f < 3 {
         return cells::leaf_cells(i, outcome_of(outcome));

@@ -1,18 +1,21 @@
 -- A node's families: the right codes passed are gathered, the left codes passed are joined in; in the end all of them are, since a code
--- above 6 has no sets.
+-- above 14 has no sets.
 use mathlib.Core.Path.{_≡_}
-use mathlib.Core.Logic.{inl, inr}
+use mathlib.Core.Logic.{_⊎_, inl, inr}
 use mathlib.Core.List.{List}
 use Prim.Native.Nat.{ℕ, _+_, _<_}
 use native.Mathlib.Omega.{arith}
 use borrow.Author.Count.{below-more}
 use lib.Bits.{bitOr}
-use Rattle.family.specs.Family.{In, Empty, Joined}
+use Rattle.family.specs.Family.{bitAt, In, Empty, Joined}
 use Rattle.family.proofs.Numbers.{below-or-above}
+use Rattle.family.proofs.Bits.{no-bit}
+use Rattle.product.specs.Product.{Product}
 use Rattle.summary.specs.declared.Summary.{Summary}
 use Rattle.summary.specs.Summary.{familyOf}
 use Rattle.summary.specs.Node.{FromCell, Under}
-use Rattle.summary.specs.Joining.{FromRight, Gathered, Grown, LeftAdded}
+use Rattle.summary.specs.Gathered.{FromRight, Gathered}
+use Rattle.summary.specs.Marks.{Among}
 use Rattle.summary.proofs.Codes.{beyond}
 
 -- the right codes below n
@@ -37,30 +40,36 @@ module _ (row : ℕ → ℕ) (code : ℕ) (b : Summary) where
       complete = below-more (λ right. row right ≡ code → (t : ℕ) → In (familyOf b right) t → In g t) n (p .complete) (λ c. absurd (d c));
     }
 
-  pub gathered : (g : List ℕ) → Gathering row code b 7 g → Gathered row code b g
+  pub gathered : (g : List ℕ) → Gathering row code b 15 g → Gathered row code b g
   gathered g p = record {
     sound = p .sound;
-    complete = λ right t c on. elim (below-or-above right 7) [ inl l ↦ p .complete right l c t on | inr l ↦ absurd (beyond b right l t on) ];
+    complete = λ right t c on. elim (below-or-above right 15) [ inl l ↦ p .complete right l c t on | inr l ↦ absurd (beyond b right l t on) ];
   }
 
--- one left code: its sets with all that is gathered beside it; nothing where it has no sets
+-- one left code: r has the sets of u, and those by its cells; its sets are joined with all that is gathered beside it
+pub record LeftAdded (cells : ℕ → ℕ → ℕ) (code : ℕ) (a b : Summary) (left : ℕ) (u r : List ℕ) : Type 0 where
+  pub sound : (t : ℕ) → In r t → In u t ⊎ FromCell cells a b code t
+  pub keeps : (t : ℕ) → In u t → In r t
+  pub complete : (right x y : ℕ) → cells left right ≡ code → In (familyOf a left) x → In (familyOf b right) y → In r (bitOr x y)
+
 module _ (cells : ℕ → ℕ → ℕ) (code : ℕ) (a b : Summary) (left : ℕ) (u : List ℕ) where
-  module _ (g j : List ℕ) (right-sets : Gathered (cells left) code b g) (grown : Grown u (familyOf a left) g j) where
-    from-unions : (t : ℕ) → In (grown .unions) t → FromCell cells a b code t
+  module _ (g v j : List ℕ) (right-sets : Gathered (cells left) code b g) (unions : Product (familyOf a left) g v) (joined : Joined u v j) where
+    from-unions : (t : ℕ) → In v t → FromCell cells a b code t
     from-unions t on =
-        let v = grown .product .sound t on in
-        let r = right-sets .sound (v .y) (v .in-right) in
-        record { left = left; right = r .right; is-cell = r .is-cell; union = record { x = v .x; y = v .y; in-left = v .in-left; in-right = r .has; is = v .is } }
+        let w = unions .sound t on in
+        let r = right-sets .sound (w .y) (w .in-right) in
+        record { left = left; right = r .right; is-cell = r .is-cell; union = record { x = w .x; y = w .y; in-left = w .in-left; in-right = r .has; is = w .is } }
 
     pub left-added : LeftAdded cells code a b left u j
     left-added = record {
-      sound = λ t on. elim (grown .joined .sound t on) [ inl old ↦ inl old | inr new ↦ inr (from-unions t new) ];
-      keeps = grown .joined .left;
-      complete = λ right x y c i k. grown .joined .right (bitOr x y) (grown .product .complete x y i (right-sets .complete right y c k));
+      sound = λ t on. elim (joined .sound t on) [ inl old ↦ inl old | inr new ↦ inr (from-unions t new) ];
+      keeps = joined .left;
+      complete = λ right x y c i k. joined .right (bitOr x y) (unions .complete x y i (right-sets .complete right y c k));
     }
 
-  pub left-empty : Empty (familyOf a left) → LeftAdded cells code a b left u u
-  left-empty none = record { sound = λ t on. inl on; keeps = λ t on. on; complete = λ right x y c i. absurd (none x i) }
+  -- a left code that is not marked has no part in it
+  pub left-passed : (lefts : ℕ) → Among cells code a b lefts → ¬ (bitAt lefts left ≡ 1) → LeftAdded cells code a b left u u
+  left-passed lefts among d = record { sound = λ t on. inl on; keeps = λ t on. on; complete = λ right x y c i k. absurd (d (among left right x y c i k)) }
 
 -- the left codes below n
 pub record Joining (cells : ℕ → ℕ → ℕ) (code : ℕ) (a b : Summary) (n : ℕ) (u : List ℕ) : Type 0 where
@@ -78,8 +87,12 @@ module _ (cells : ℕ → ℕ → ℕ) (code : ℕ) (a b : Summary) where
         (λ left l right x y c i k. added .keeps (bitOr x y) (q .complete left l right x y c i k)) (added .complete);
   }
 
-  pub joined-all : (u : List ℕ) → Joining cells code a b 7 u → Under cells code a b u
+  pub joined-all : (u : List ℕ) → Joining cells code a b 15 u → Under cells code a b u
   joined-all u q = record {
     sound = q .sound;
-    complete = λ left right x y c i k. elim (below-or-above left 7) [ inl l ↦ q .complete left l right x y c i k | inr l ↦ absurd (beyond a left l x i) ];
+    complete = λ left right x y c i k. elim (below-or-above left 15) [ inl l ↦ q .complete left l right x y c i k | inr l ↦ absurd (beyond a left l x i) ];
   }
+
+  -- where no left code is marked there are no sets
+  pub joined-none : (u : List ℕ) → Empty u → Among cells code a b 0 → Under cells code a b u
+  joined-none u none among = record { sound = λ t on. absurd (none t on); complete = λ left right x y c i k. absurd (omega (arith, no-bit left, among left right x y c i k)) }

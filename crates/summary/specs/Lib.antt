@@ -1,4 +1,5 @@
 pub mod Summary
 pub mod Node
-pub mod Joining
+pub mod Gathered
+pub mod Marks
 pub mod Exact

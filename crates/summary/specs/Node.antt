@@ -1,12 +1,14 @@
 -- The summary of a node from those of its sides, by cells: "for each cell .. every union of one left set under the cell's left code and
 -- one right set under its right code". `cells l r` is the code of the left code l and the right code r; in the outcome chart, for a node of a
--- form, `cell form`.
+-- form, `cell3 form`.
 use mathlib.Core.Path.{_≡_}
+use mathlib.Core.Bool.{false}
 use mathlib.Core.List.{List}
 use Prim.Native.Nat.{ℕ, _≤_, _<_}
 use lib.Bits.{bitOr}
 use Rattle.family.specs.Family.{In}
 use Rattle.product.specs.Product.{Union}
+use Rattle.outcomes.specs.ThreeLevels.{unsettled}
 use Rattle.summary.specs.declared.Summary.{Summary}
 use Rattle.summary.specs.Summary.{familyOf}
 
@@ -22,6 +24,6 @@ pub record Under (cells : ℕ → ℕ → ℕ) (code : ℕ) (a b : Summary) (u :
   pub sound : (t : ℕ) → In u t → FromCell cells a b code t
   pub complete : (left right x y : ℕ) → cells left right ≡ code → In (familyOf a left) x → In (familyOf b right) y → In u (bitOr x y)
 
--- The same for each of the codes 1 to 6: the node's summary.
+-- The same for each of the settled codes above 0: the node's summary.
 abbrev pub NodeSummary : (ℕ → ℕ → ℕ) → Summary → Summary → Summary → Type 0
-NodeSummary cells a b s = (code : ℕ) → 1 ≤ code → code < 7 → Under cells code a b (familyOf s code)
+NodeSummary cells a b s = (code : ℕ) → 1 ≤ code → code < 15 → unsettled code ≡ false → Under cells code a b (familyOf s code)

@@ -1,5 +1,5 @@
--- The starred plans hold, row by row: one test, computed over the table, compares each file's reading, sets and verdict with its row, and
--- the theorem on the plan's sets carries that to complete runs. The lines of a violation are those of the one run that leaves the set.
+-- The tried plans hold, row by row: one test, computed over a table, compares each file's reading, sets and verdict with its row, and the theorem on the plan's sets carries
+-- that to complete runs. The lines of a violation are those of the one run that leaves the set.
 use mathlib.Core.Path.{_≡_, refl, sym, ap, subst, _∙_}
 use mathlib.Core.Bool.{Bool, true, false, _&&_}
 use mathlib.Core.List.{List, [], _∷_, flatMap, List·Memᴰ, List·Memᴰ·head, List·Memᴰ·tail}
@@ -12,8 +12,10 @@ use Rattle.text.specs.Text.{textOf}
 use Rattle.text.specs.Decimal.{digits}
 use Rattle.text.specs.declared.Text.{Text}
 use Rattle.process.specs.Process.{ok, fail, entry}
-use Rattle.outcomes.specs.Cells.{lines, cell, among}
-use Rattle.outcomes.specs.Families.{outcomes, planSets}
+use Rattle.outcomes.specs.Cells.{among}
+use Rattle.outcomes.specs.LevelCells.{cellAt}
+use Rattle.outcomes.specs.Families.{outcomesBy, setsUnder}
+use Rattle.outcomes.specs.ThreeLevels.{cell3}
 use Rattle.outcomes.proofs.Members.{among-member}
 use Rattle.outcomes.proofs.Table.{both-hold}
 use Rattle.blocks.specs.Bounded.{every, total}
@@ -33,6 +35,7 @@ use Rattle.judge.proofs.Demand3.{found-answer}
 use Rattle.report.specs.Lines.{entryLines, verdictLines}
 use Rattle.report.specs.Tells.{Tells}
 use Rattle.tried.specs.TriedPlans.{TriedPlan, Holds, p1, p2, p3, p4, p5, p6, p7, p8, triedPlans, TriedPlans}
+use Rattle.tried.specs.NestedPlans.{q1, q2, q3, q4, q5, nestedPlans, NestedPlans}
 use Rattle.tried.proofs.CompleteRuns.{process2, runs2, complete2, process7, runs7, complete7, process8, runs8, complete8}
 use Rattle.tried.proofs.ShownLines.{only-run, Told, told-consistent, told-violated, record-length}
 
@@ -85,8 +88,12 @@ abbrev agrees : TriedPlan → Bool
 agrees p = sameSets p (readOf (p .file)) && sameVerdict (verdictOf (p .file) workSize recordSize) (p .verdict)
 
 tested : T (each agrees triedPlans)
-unfolding every total foldFrom ruleFrom outcomes planSets flatMap cell lines values satisfies smallest
+unfolding every total foldFrom ruleFrom outcomesBy setsUnder flatMap cell3 cellAt values satisfies smallest
 tested = tt
+
+nested-tested : T (each agrees nestedPlans)
+unfolding every total foldFrom ruleFrom outcomesBy setsUnder flatMap cell3 cellAt values satisfies smallest
+nested-tested = tt
 
 -- the rows' lines
 told : All Told triedPlans
@@ -101,6 +108,9 @@ told =
     then told-violated p7 2 (entry 0 ok ∷ []) refl (only-run (p7 .file) process7 runs7 (λ r s c. complete7 c) 2 _ refl refl) refl
     then told-violated p8 0 (entry 0 fail ∷ []) refl (only-run (p8 .file) process8 runs8 (λ r s c. complete8 c) 0 _ refl refl) refl
     then no-more
+
+nested-told : All Told nestedPlans
+nested-told = told-consistent q1 refl refl then told-consistent q2 refl refl then told-consistent q3 refl refl then told-consistent q4 refl refl then told-consistent q5 refl refl then no-more
 
 -- the verdict in areas that are large enough is the row's
 lines-told : (p : TriedPlan) → Told p → verdictOf (p .file) workSize recordSize ≡ p .verdict → (work work′ old new : List ℕ) (v : Judgement)
@@ -137,7 +147,13 @@ row-holds p (Accepted l) e t v told =
       text = text-told p told v;
     }
 
-pub tried-plans : TriedPlans
-tried-plans p m =
-    let (sets, v) = both-hold (sameSets p (readOf (p .file))) _ (each-at agrees tested m) in
+rows-hold : (ps : List TriedPlan) → T (each agrees ps) → All Told ps → (p : TriedPlan) → List·Memᴰ p ps → Holds p
+rows-hold ps t told p m =
+    let (sets, v) = both-hold (sameSets p (readOf (p .file))) _ (each-at agrees t m) in
     row-holds p (readOf (p .file)) refl sets (same-verdict _ _ v) (all-at told m)
+
+pub tried-plans : TriedPlans
+tried-plans = rows-hold triedPlans tested told
+
+pub nested-plans : NestedPlans
+nested-plans = rows-hold nestedPlans nested-tested nested-told

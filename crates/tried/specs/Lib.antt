@@ -1,1 +1,2 @@
 pub mod TriedPlans
+pub mod NestedPlans

@@ -14,7 +14,7 @@ leaf-cell-requires : tie.Need-leaf-cell-requires
 leaf-cell-requires c κs = search needs
 
 returns-2 : tie.Need-returns-2
-returns-2 c = rw (lt-ltb _ _ (c .before .before .if1 .left), c .before .before .before .nothing .ensures, c .leaf-cell .ensures)
+returns-2 c = rw (lt-ltb _ _ (c .before .before .before .if1 .left), c .before .before .before .before .nothing .ensures, c .leaf-cell .ensures)
 
 pub leaf-cells-spec : {M : Type 1} → statement M
 leaf-cells-spec = tie.close (tie.spec nothing-requires returns leaf-cell-requires returns-2)

@@ -49,12 +49,12 @@ abbrev claims : ℕ → search-lts.Claims
 claims t = (is-cut-reads.Asked, is-cut-reads.Learnt, choose-reads.Asked, choose-reads.Learnt, fold-reads.Asked, fold-reads.Learnt, lesser-reads.Asked, lesser-reads.Learnt, candidates-reads.Asked, candidates-reads.Learnt, next-candidate-reads.Asked, next-candidate-reads.Learnt, with-finished-reads.Asked, with-finished-reads.Learnt, search-below t, search′.Post)
 
 abbrev Inv-loop : search-lts.InvT-loop
-Inv-loop chart types nodes set actions table other best a several n found₀ i₀ found i =
+Inv-loop rows types nodes set actions table other best a several n found₀ i₀ found i =
     (n ≡ count nodes) × (i ≤ n) × (i < n → candidate nodes table a i ≡ true)
     × (found ≡ min best (leastWhere i (candidate nodes table a) (λ m. searched types nodes set actions 0 (put table m 1))))
 
 abbrev μ-loop : search-lts.MeasureT-loop
-μ-loop chart types nodes set actions table other best a several n found₀ i₀ found i = n - i
+μ-loop rows types nodes set actions table other best a several n found₀ i₀ found i = n - i
 
 module _ (t : ℕ) where
   -- where an action is due

@@ -9,10 +9,10 @@ use Rattle.fewest.proofs.fewest_left.Statement.{statement}
 use Rattle.fewest.proofs.fewest_left.Tie as tie
 
 abbrev Inv-loop : tie.InvT-loop
-Inv-loop chart types nodes set actions table best c₀ a₀ c a = Among actions types nodes set table best a c
+Inv-loop rows types nodes set actions table best c₀ a₀ c a = Among actions types nodes set table best a c
 
 abbrev μ-loop : tie.MeasureT-loop
-μ-loop chart types nodes set actions table best c₀ a₀ c a = actions - a
+μ-loop rows types nodes set actions table best c₀ a₀ c a = actions - a
 
 next-due-requires : tie.Need-next-due-requires Inv-loop μ-loop
 next-due-requires c κs =

@@ -7,13 +7,13 @@ use lib.Dec.{ltb}
 use lib.ListN.{length, getD}
 use Rattle.nodes.specs.Nodes.{count, form, left, right}
 use Rattle.nodes.proofs.Filled.{Filled, filled-none, filled-more}
-use Rattle.outcomes.specs.Table.{cellIn}
+use Rattle.outcomes.specs.Rows.{cellIn3}
 use Rattle.plan.proofs.Tree.{parts-smaller}
 use Rattle.state.proofs.Sides.{left-small, right-small}
 use Rattle.fewest.specs.declared.Costs.{Costs}
 use Rattle.fewest.specs.Costs.{nodeCosts, finalCost}
 use Rattle.fewest.specs.Search.{wishes}
-use Rattle.fewest.proofs.Folded.{leafCostsAt, nodeCostsAt, folded, by-chart}
+use Rattle.fewest.proofs.Folded.{leafCostsAt, nodeCostsAt, folded, by-rows}
 use borrow.Author.Needs.{needs}
 use native.Mathlib.Omega.{arith}
 use Rattle.fewest.proofs.fold.Statement.{statement}
@@ -24,11 +24,11 @@ abbrev blank : Costs
 blank = record { by = [] }
 
 abbrev Inv-loop : tie.InvT-loop
-Inv-loop chart types nodes set table n costs₀ i₀ costs i =
+Inv-loop rows types nodes set table n costs₀ i₀ costs i =
     (n ≡ count nodes) × Filled (leafCostsAt (wishes nodes set table) types nodes) (nodeCostsAt (wishes nodes set table) types nodes) nodes blank 63 i costs
 
 abbrev μ-loop : tie.MeasureT-loop
-μ-loop chart types nodes set table n costs₀ i₀ costs i = n - i
+μ-loop rows types nodes set table n costs₀ i₀ costs i = n - i
 
 loop-holds : tie.Need-loop-holds Inv-loop μ-loop
 loop-holds c =
@@ -97,9 +97,9 @@ loop-again c =
     let p = getD costs (left b i) blank in
     let q = getD costs (right b i) blank in
     let h : i < count b = omega arith in
-    let e : c .costs-at .result ≡ cond (ltb (form b i) 3) (leafCostsAt may types b i) (nodeCosts (cellIn (s .args .chart .now) (form b i)) p q 7) = rw (x .node-at .ensures) at (c .costs-at .ensures) in (
+    let e : c .costs-at .result ≡ cond (ltb (form b i) 3) (leafCostsAt may types b i) (nodeCosts (cellIn3 (s .args .rows .now) (form b i)) p q 15) = rw (x .node-at .ensures) at (c .costs-at .ensures) in (
       l .loop .inv .0,
-      filled-more (leafCostsAt may types b) (nodeCostsAt may types b) b blank (parts-smaller types b (s .pre .0)) 63 i costs (c .costs-at .result) h (omega (arith, s .pre .0 .nodes-few)) (e ∙ by-chart may types b (s .pre .0) (s .args .chart .now) (s .pre .1) i h p q) (l .loop .inv .1),
+      filled-more (leafCostsAt may types b) (nodeCostsAt may types b) b blank (parts-smaller types b (s .pre .0)) 63 i costs (c .costs-at .result) h (omega (arith, s .pre .0 .nodes-few)) (e ∙ by-rows may types b (s .pre .0) (s .args .rows .now) (s .pre .1) i h p q) (l .loop .inv .1),
     )
 
 sub-final-cost : tie.Need-sub-final-cost Inv-loop μ-loop

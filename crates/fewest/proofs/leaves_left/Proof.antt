@@ -11,10 +11,10 @@ use Rattle.fewest.proofs.leaves_left.Statement.{statement}
 use Rattle.fewest.proofs.leaves_left.Tie as tie
 
 abbrev Inv-loop : tie.InvT-loop
-Inv-loop chart types nodes set table a best n many₀ i₀ many i = (n ≡ count nodes) × (i ≤ n) × (many ≤ i) × (many ≡ countWhere i (isLeft types nodes set table a best))
+Inv-loop rows types nodes set table a best n many₀ i₀ many i = (n ≡ count nodes) × (i ≤ n) × (many ≤ i) × (many ≡ countWhere i (isLeft types nodes set table a best))
 
 abbrev μ-loop : tie.MeasureT-loop
-μ-loop chart types nodes set table a best n many₀ i₀ many i = n - i
+μ-loop rows types nodes set table a best n many₀ i₀ many i = n - i
 
 loop-holds : tie.Need-loop-holds Inv-loop μ-loop
 loop-holds c = (refl, omega arith, omega arith, refl)

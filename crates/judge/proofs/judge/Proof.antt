@@ -1,4 +1,4 @@
--- `judge::judge` meets its contract: the work area is filled with the summaries, the last node's are loaded from it, and the smallest set that
+-- `judge::judge` meets its contract: the summaries are put into the work area, up to that of the whole process, and the smallest set that
 -- breaks the rule is sought among its final ones. `Judging` has what follows, for each answer.
 use mathlib.Core.Path.{refl}
 use Rattle.least.specs.declared.Least.the-variants.{Found, Nothing}
@@ -13,12 +13,6 @@ table-requires c κs = search needs
 
 fill-requires : tie.Need-fill-requires
 fill-requires c κs = search needs
-
-sub-load : tie.Need-sub-load
-sub-load c = search needs
-
-load-requires : tie.Need-load-requires
-load-requires c κs = search needs
 
 finals-requires : tie.Need-finals-requires
 finals-requires c κs = search needs
@@ -37,12 +31,11 @@ show-requires c κs =
     let d = c .before .before in
     let find = d .before .before in
     let finals = find .before in
-    let load = finals .before in
-    let fill = load .before .before .before .before in
+    let fill = finals .before .before .before in
     let s = fill .before .before .before .before .before .before .before .before .before in
     let a = s .args in
     let table = fill .before .before .before .table .ensures in
-    let left = found-left (a .types .now) (a .pairs .now) (a .nodes .now) (a .rule .now) (a .work .now) _ (s .pre .0) (fill .fill .ensures) _ (load .load .ensures) _ (finals .finals .ensures)
+    let left = found-left (a .types .now) (a .pairs .now) (a .nodes .now) (a .rule .now) (a .work .now) _ (s .pre .0) _ (fill .fill .ensures) _ (finals .finals .ensures)
     _ _ (d .set .given .1) (find .find .ensures) in
     (s .pre .0, left-small (a .types .now) (a .nodes .now) (s .pre .0) _ left, table, left)
 
@@ -53,11 +46,10 @@ returns : tie.Need-returns
 returns c =
     let find = c .before .before in
     let finals = find .before in
-    let load = finals .before in
-    let fill = load .before .before .before .before in
+    let fill = finals .before .before .before in
     let s = fill .before .before .before .before .before .before .before .before .before in
     let a = s .args in
-    judged-plan (a .types .now) (a .pairs .now) (a .nodes .now) (a .rule .now) (a .work .now) _ (s .pre .0) (fill .fill .ensures) _ (load .load .ensures) _ (finals .finals .ensures)
+    judged-plan (a .types .now) (a .pairs .now) (a .nodes .now) (a .rule .now) (a .work .now) _ (s .pre .0) _ (fill .fill .ensures) _ (finals .finals .ensures)
     _ Nothing _ (c .enum-told .given .1) (find .find .ensures) refl
 
 same-length-2 : tie.Need-same-length-2
@@ -68,13 +60,12 @@ returns-2 c =
     let d = c .before .before .before in
     let find = d .before .before in
     let finals = find .before in
-    let load = finals .before in
-    let fill = load .before .before .before .before in
+    let fill = finals .before .before .before in
     let s = fill .before .before .before .before .before .before .before .before .before in
     let a = s .args in
-    let left = found-left (a .types .now) (a .pairs .now) (a .nodes .now) (a .rule .now) (a .work .now) _ (s .pre .0) (fill .fill .ensures) _ (load .load .ensures) _ (finals .finals .ensures)
+    let left = found-left (a .types .now) (a .pairs .now) (a .nodes .now) (a .rule .now) (a .work .now) _ (s .pre .0) _ (fill .fill .ensures) _ (finals .finals .ensures)
     _ _ (d .set .given .1) (find .find .ensures) in
-    judged-plan (a .types .now) (a .pairs .now) (a .nodes .now) (a .rule .now) (a .work .now) _ (s .pre .0) (fill .fill .ensures) _ (load .load .ensures) _ (finals .finals .ensures)
+    judged-plan (a .types .now) (a .pairs .now) (a .nodes .now) (a .rule .now) (a .work .now) _ (s .pre .0) _ (fill .fill .ensures) _ (finals .finals .ensures)
     _ (Found _) _ (d .set .given .1) (find .find .ensures) (record { left = left; shown = c .show .ensures })
 
 pub judge-spec : {M : Type 1} → statement M
@@ -83,8 +74,6 @@ judge-spec =
     (tie.spec
     table-requires
     fill-requires
-    sub-load
-    load-requires
     finals-requires
     find-requires
     enum-told

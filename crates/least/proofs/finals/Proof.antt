@@ -10,8 +10,11 @@ join-requires c κs = search needs
 join-requires-2 : tie.Need-join-requires-2
 join-requires-2 c κs = search needs
 
+join-requires-3 : tie.Need-join-requires-3
+join-requires-3 c κs = search needs
+
 returns : tie.Need-returns
-returns c = finals-joined (c .before .before .before .before .before .args .s) _ _ (c .before .join .ensures) (c .join2 .ensures)
+returns c = finals-joined (c .before .before .before .before .before .before .before .args .s) _ _ _ (c .before .before .join .ensures) (c .before .join2 .ensures) (c .join3 .ensures)
 
 pub finals-spec : {M : Type 1} → statement M
-finals-spec = tie.close (tie.spec join-requires join-requires-2 returns)
+finals-spec = tie.close (tie.spec join-requires join-requires-2 join-requires-3 returns)

@@ -26,11 +26,11 @@ module _ (types b : List ℕ) (S k : ℕ) (table : List ℕ) (next : ℕ) where
       rw (z, ne-eqb _ _ e)
 
 abbrev Inv-loop : tie.InvT-loop
-Inv-loop chart types nodes set k table told n i₀ i =
+Inv-loop rows types nodes set k table told n i₀ i =
     (n ≡ count nodes) × (i ≤ n) × (entryFrom types nodes set k table (told .next) 0 n ≡ entryFrom types nodes set k table (told .next) i (n - i))
 
 abbrev μ-loop : tie.MeasureT-loop
-μ-loop chart types nodes set k table told n i₀ i = n - i
+μ-loop rows types nodes set k table told n i₀ i = n - i
 
 told-by-requires : tie.Need-told-by-requires Inv-loop μ-loop
 told-by-requires c κs = search needs

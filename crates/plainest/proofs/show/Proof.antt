@@ -13,11 +13,11 @@ use Rattle.plainest.proofs.show.Statement.{statement}
 use Rattle.plainest.proofs.show.Tie as tie
 
 abbrev Inv-loop : tie.InvT-loop
-Inv-loop chart types nodes set table₀ k run₀ i₀ table run i =
+Inv-loop rows types nodes set table₀ k run₀ i₀ table run i =
     (k ≡ fewestLeft types nodes set freshTable) × (k < unreached) × (i ≤ 63) × (length table ≡ 63) × Written types nodes set k i table run
 
 abbrev μ-loop : tie.MeasureT-loop
-μ-loop chart types nodes set table₀ k run₀ i₀ table run i = 63 - i
+μ-loop rows types nodes set table₀ k run₀ i₀ table run i = 63 - i
 
 fewest-requires : tie.Need-fewest-requires Inv-loop μ-loop
 fewest-requires c κs =

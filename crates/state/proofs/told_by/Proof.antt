@@ -9,7 +9,7 @@ use borrow.Author.Needs.{needs}
 use Rattle.nodes.specs.Nodes.{count, form, left, right}
 use Rattle.nodes.proofs.Filled.{Filled, filled-none, filled-more}
 use Rattle.plan.proofs.Tree.{parts-smaller}
-use Rattle.runs.specs.TwoLevels.{toldTwo}
+use Rattle.runs.specs.ThreeLevels.{toldThree}
 use Rattle.runs.specs.declared.Ended.the-variants.{Open}
 use Rattle.runs.specs.declared.Cell.{Cell}
 use Rattle.runs.specs.declared.Cells.{Cells}
@@ -23,7 +23,7 @@ abbrev blankCell : Cell
 blankCell = record { empty = false; begun = false; ended = Open; next = 0 }
 
 abbrev blank : Cells
-blank = record { forward = blankCell; undo = blankCell }
+blank = record { forward = blankCell; undo = blankCell; again = blankCell }
 
 abbrev Inv-loop : tie.InvT-loop
 Inv-loop types nodes table n cells₀ i₀ cells i = (n ≡ count nodes) × Filled (leafCells table) (nodeCells nodes) nodes blank 63 i cells
@@ -117,8 +117,8 @@ returns c =
     let s = l .before .before .before .before in
     let b = s .args .nodes .now in
     let last = length b / 3 - 1 in
-    let e : c .tell .result ≡ toldTwo (getD (l .loop .cells) last blank) = c .tell .ensures in
-    e ∙ ap toldTwo (l .loop .inv .1 .entries last (omega (arith, s .pre .nodes-some)))
+    let e : c .tell .result ≡ toldThree (getD (l .loop .cells) last blank) = c .tell .ensures in
+    e ∙ ap toldThree (l .loop .inv .1 .entries last (omega (arith, s .pre .nodes-some)))
 
 pub told-by-spec : {M : Type 1} → statement M
 told-by-spec =

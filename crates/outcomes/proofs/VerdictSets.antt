@@ -1,0 +1,22 @@
+-- The statement of specs/VerdictSets.antt, put together from its parts: on a plan that the chart is for, both have the sets that its complete runs leave.
+use native.Mathlib.Omega.{arith}
+use Rattle.outcomes.specs.Sets.{Sets, Lawful, numbers}
+use Rattle.outcomes.specs.VerdictSets.{ExactSets, VerdictSets}
+use Rattle.outcomes.proofs.AnyLevels.{exact-at}
+use Rattle.outcomes.proofs.Families.{plan-sound, plan-complete}
+use Rattle.outcomes.proofs.ThreeLevels.{sets-sound, sets-complete}
+use Rattle.outcomes.proofs.ActionSets.{numbers-lawful}
+
+exact : (S : Sets) → Lawful S → ExactSets S
+exact S laws =
+    record {
+      any-levels = λ n P s X h. exact-at n S laws P s X h;
+      three-levels = λ P s X h. (λ m. sets-sound S laws P h m, λ x. sets-complete S laws P h x);
+      same-as-chart = λ P s X h. (
+        λ m. plan-complete S laws {P = P} h (sets-sound S laws P (omega arith) m),
+        λ m. sets-complete S laws P (omega arith) (plan-sound S laws {P = P} h m),
+      );
+    }
+
+pub verdict-sets : VerdictSets
+verdict-sets = record { any-sets = exact; action-sets = λ single. exact (numbers single) (numbers-lawful single) }
