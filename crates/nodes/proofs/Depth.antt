@@ -5,16 +5,16 @@ use mathlib.Core.Path.{_≡_, refl}
 use mathlib.Core.Bool.{Bool, true, false, cond}
 use mathlib.Core.List.{List}
 use mathlib.Core.Logic.{_↔_, _⊎_, inl, inr}
-use Prim.Native.Nat.{ℕ, zero, suc, _≤_, _<_, max}
+use Prim.Native.Nat.{ℕ, zero, suc, _-_, _≤_, _<_, max}
 use native.Mathlib.Omega.{arith}
 use lib.Dec.{leb, eqb}
 use borrow.Author.Tests.{eqb-true, eq-eqb, le-leb, leb-true, leb-false}
 use Rattle.process.specs.Depth.{mostUndos}
 use Rattle.blocks.proofs.Bounded.{decide, every-at, every-all}
-use Rattle.nodes.specs.Nodes.{count, form, left, right, Side, on-left, on-right, child, Names, Under, itself, named, Nested, alone, nested, NotTooDeep, Descending}
+use Rattle.nodes.specs.Nodes.{count, form, left, right, Side, on-left, on-right, child, Names, Under, itself, named, Nested, alone, nested, NotTooDeep, EachNamedOnce, Descending}
 use Rattle.nodes.specs.NodeTests.{deeper, noDepth, depthAt, nestedOk}
 use Rattle.nodes.proofs.Fold.{node-ind, fold-leaf, fold-node}
-use Rattle.nodes.proofs.Under.{through}
+use Rattle.nodes.proofs.Under.{through, all-under-last}
 use Rattle.nodes.proofs.Nested.{depthTest}
 
 -- neither part is deeper
@@ -114,6 +114,10 @@ module _ (b : List ℕ) where
         go : (depthTest b i ≡ true) ⊎ (depthTest b i ≡ false) → depthAt b i ≤ mostUndos
         go (inl e) = leb-true (depthAt b i) mostUndos e
         go (inr e) = let x = below-deep mostUndos (begins mostUndos) i c (leb-false (depthAt b i) mostUndos e) in absurd (h (x .at) (x .is))
+
+    -- where each node but the last is named once, all stand under the last
+    pub last-most : EachNamedOnce b → depthAt b (count b - 1) ≤ mostUndos → NotTooDeep b
+    last-most once h i x = omega (arith, h, under-less (all-under-last b down once i (nested-present x)), nested-deep x)
 
     pub nested-say : (nestedOk b ≡ true) ↔ NotTooDeep b
     nested-say = (

@@ -5,3 +5,4 @@ pub mod Forms
 pub mod Named
 pub mod Under
 pub mod Depth
+pub mod Examples

@@ -4,7 +4,7 @@ use Rattle.outcomes.specs.Sets.{Sets, Lawful, numbers}
 use Rattle.outcomes.specs.VerdictSets.{ExactSets, VerdictSets}
 use Rattle.outcomes.proofs.AnyLevels.{exact-at}
 use Rattle.outcomes.proofs.Families.{plan-sound, plan-complete}
-use Rattle.outcomes.proofs.ThreeLevels.{sets-sound, sets-complete}
+use Rattle.outcomes.proofs.ThreeLevels.{sets-sound, sets-complete, in-plan-sets, out-plan-sets}
 use Rattle.outcomes.proofs.ActionSets.{numbers-lawful}
 
 exact : (S : Sets) → Lawful S → ExactSets S
@@ -12,6 +12,7 @@ exact S laws =
     record {
       any-levels = λ n P s X h. exact-at n S laws P s X h;
       three-levels = λ P s X h. (λ m. sets-sound S laws P h m, λ x. sets-complete S laws P h x);
+      listed = λ P X. (out-plan-sets S P, λ (s, m). in-plan-sets S P s m);
       same-as-chart = λ P s X h. (
         λ m. plan-complete S laws {P = P} h (sets-sound S laws P (omega arith) m),
         λ m. sets-complete S laws P (omega arith) (plan-sound S laws {P = P} h m),

@@ -14,7 +14,7 @@ use Rattle.plan.proofs.Accepted.{Laid, accepted-laid, most-bytes}
 use Rattle.plan.proofs.Exactly.{accepted-exactly, refused-exactly, accepted-holds}
 use Rattle.plan.proofs.Prefix.{beginning-decides}
 use Rattle.plan.proofs.InBlocks.{in-blocks}
-use Rattle.plan.proofs.Tree.{drawn}
+use Rattle.plan.proofs.Tree.{levels-say, drawn}
 use Rattle.plan.proofs.Largest.{largest, largest-file, largest-long}
 
 laid : (s : List ℕ) (l : Layout) → readOf s ≡ Accepted l → Laid mostActions mostPairs s l
@@ -43,6 +43,7 @@ demand1 = record {
   refuses-within = λ actionLimit pairLimit few s bytes n. refused-exactly actionLimit pairLimit few s bytes n;
   no-fourth = λ actions pairs legal. no-fourth actions pairs legal;
   most-pairs = λ actionLimit actions pairs five few legal. most-pairs actions pairs legal actionLimit five few;
+  levels = λ actions types nodes forms once some. levels-say types nodes (λ i c f. forms i c .parts f) once some;
   blocks = in-blocks;
   holds = λ s l h. accepted-holds mostActions mostPairs (omega arith) s l h;
   most = λ s l h. most-bytes mostActions mostPairs s l (laid s l h);

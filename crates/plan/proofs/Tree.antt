@@ -11,15 +11,15 @@ use borrow.Author.Tests.{eqb-true}
 use Rattle.process.specs.Process.{Kind, sequence, parallel, choice, compensation, handler, Process, leaf, node}
 use Rattle.process.specs.Forms.{formOf}
 use Rattle.process.specs.Leaves.{AsWritten, SomeLeaf, HasLeaf, Apart, Distinct}
-use Rattle.process.specs.Depth.{rightDepth, undoDepth}
-use Rattle.nodes.specs.Nodes.{count, form, left, right, Side, on-left, on-right, Names, EachNamedOnce, Under, itself, Descending}
+use Rattle.process.specs.Depth.{rightDepth, undoDepth, Shallow}
+use Rattle.nodes.specs.Nodes.{count, form, left, right, Side, on-left, on-right, Names, EachNamedOnce, Under, itself, NotTooDeep, Descending}
 use Rattle.nodes.specs.NodeTests.{deeper, noDepth, depthAt}
 use Rattle.plan.specs.Tree.{leafKind, leafOf, compositeOf, processAt, processOf}
 use Rattle.plan.specs.PlanFile.{RunnableWithin}
 use Rattle.plan.specs.Demand1.{Drawn}
 use Rattle.nodes.proofs.Fold.{node-ind, fold-leaf, fold-node, fold-map}
 use Rattle.nodes.proofs.Under.{through, first, all-under-last, apart}
-use Rattle.nodes.proofs.Depth.{depth-most}
+use Rattle.nodes.proofs.Depth.{depth-most, last-most}
 
 module _ (types b : List ℕ) (down : Descending b) where
   abbrev at : ℕ → Process
@@ -123,6 +123,11 @@ depth-of-process types b i =
     (λ n P Q. ap (max (undoDepth P)) (right-depth (form b n) (undoDepth Q)))
     (suc i) i
 
+-- so check 8 is for the levels of the process
+pub levels-say : (types b : List ℕ) → Descending b → EachNamedOnce b → 1 ≤ count b → NotTooDeep b ↔ Shallow (processOf types b)
+levels-say types b down once some =
+    rw (depth-of-process types b (count b - 1)) (λ h. depth-most b down h (count b - 1) (omega arith), last-most b down once)
+
 module _ {actionLimit : ℕ} (types b : List ℕ) (r : RunnableWithin actionLimit types b) where
   pub parts-smaller : Descending b
   parts-smaller i c f = r .nodes-hold .keep i c .parts f
@@ -151,5 +156,5 @@ module _ {actionLimit : ℕ} (types b : List ℕ) (r : RunnableWithin actionLimi
     );
     written = written types b parts-smaller (count b - 1) last-present;
     distinct = distinct types b parts-smaller (r .nodes-hold .once) (count b - 1) last-present;
-    shallow = rw (depth-of-process types b (count b - 1)) (depth-most b parts-smaller (r .nodes-hold .shallow) (count b - 1) last-present);
+    shallow = levels-say types b parts-smaller (r .nodes-hold .once) (omega arith) .0 (r .nodes-hold .shallow);
   }

@@ -9,7 +9,7 @@ use Rattle.process.specs.Leaves.{AsWritten, HasLeaf, Distinct}
 use Rattle.process.specs.Depth.{Shallow}
 use Rattle.blocks.specs.Block.{block}
 use Rattle.bodies.specs.Pairs.{Pairs, pairCount, first}
-use Rattle.nodes.specs.Nodes.{count, form, Under}
+use Rattle.nodes.specs.Nodes.{count, form, FormRules, EachNamedOnce, Under, NotTooDeep}
 use Rattle.plan.specs.PlanFile.{mostActions, mostPairs, mostBytes, Bytes, Bodies, PlanFile}
 use Rattle.plan.specs.Refusals.{Broken}
 use Rattle.plan.specs.Reading.{bytesOf, endOf, readWithin, readOf}
@@ -58,6 +58,9 @@ pub record Demand1 : Type 0 where
   -- the limit of pairs that goes with a limit of actions, 21 with ten and 63 with 24, turns away no pairs that keep the pair rule
   pub most-pairs : (actionLimit actions : ℕ) (pairs : List ℕ) → 5 ≤ actionLimit → actions ≤ actionLimit → Pairs actions pairs
       → pairCount pairs ≤ 3 * (actionLimit - 3)
+  -- of nodes that neither 6 nor 7 is for, 8 is for just those whose process has more levels of undos than a plan may have
+  pub levels : (actions : ℕ) (types nodes : List ℕ) → FormRules actions nodes → EachNamedOnce nodes → 1 ≤ count nodes
+      → NotTooDeep nodes ↔ Shallow (processOf types nodes)
   -- the bodies of an accepted file are those of its blocks, and hold what document 01 permits
   pub blocks : (s : List ℕ) → Bytes s → (l : Layout) → readOf s ≡ Accepted l → InBlocks s l
   pub holds : (s : List ℕ) (l : Layout) → readOf s ≡ Accepted l → Holds mostActions mostPairs s l
