@@ -1,12 +1,11 @@
 -- The fold over a process: under each settled code the least failed entries of the levels with the code that meet the wishes, and so of its complete runs. By the
 -- chart of three levels: a cell makes the levels of a node from those of its sides, and the levels of a node have such a cell, whose sides are settled where it is.
 use mathlib.Core.Path.{_≡_, refl, sym, _∙_, ap, ap₂}
-use mathlib.Core.Bool.{Bool, true, false, not, cond}
+use mathlib.Core.Bool.{true, not}
 use mathlib.Core.List.{List}
 use mathlib.Core.Logic.{_⊎_, inl, inr}
 use Prim.Native.Nat.{ℕ, _+_, _≤_, _<_, min}
 use native.Mathlib.Omega.{arith}
-use borrow.Author.Tests.{not-true}
 use lib.ListN.{take}
 use Rattle.process.specs.Process.{Status, Form, Process, done, leaf, node, Run}
 use Rattle.process.specs.Forms.{formNumber}
@@ -14,13 +13,12 @@ use Rattle.process.specs.Leaves.{AsWritten, Distinct, Apart}
 use Rattle.reorder.specs.Entries.{failures}
 use Rattle.outcomes.specs.Codes.{Code, number}
 use Rattle.outcomes.specs.Joins.{codeOf}
-use Rattle.outcomes.specs.LevelCells.{cellAt}
 use Rattle.outcomes.specs.ThreeLevels.{unsettled, cell3, Final3, final-1, final-9, final-13, final-14}
 use Rattle.outcomes.proofs.Levels.{Levels, whole, levels-of, parts, split, joined-interleaves}
 use Rattle.outcomes.proofs.Depth.{levels, levels-depth, left-levels, right-levels, cut-levels, cut-whole}
 use Rattle.outcomes.proofs.Numbers.{number-small, code-of-number, number-of-code}
 use Rattle.outcomes.proofs.Nodes.{node-levels, final-run, cell-of-levels}
-use Rattle.outcomes.proofs.ThreeLevels.{closed-sides, cell-of-form, final-number, final-code}
+use Rattle.outcomes.proofs.ThreeLevels.{three, cell-settled, final-number, final-code}
 use Rattle.fewest.specs.Wishes.{Wish, Meets, Possible}
 use Rattle.fewest.specs.Costs.{unreached, costOf, costsOf}
 use Rattle.fewest.specs.Least.{LeastBelow}
@@ -29,17 +27,6 @@ use Rattle.fewest.proofs.Least.{least-as, least-either}
 use Rattle.fewest.proofs.Sides.{interleaved-failures, levels-of-leaves, meets-both, meets-left, meets-right}
 use Rattle.fewest.proofs.LeafCosts.{Can, Counted, leaf-counted}
 use Rattle.fewest.proofs.NodeCosts.{Told, Rows, node-told}
-
--- a code that the table gives is settled, and that of the chart
-settled-cell : (f : Form) (l r c : ℕ) → l < 15 → r < 15 → cell3 (formNumber f) l r ≡ c → c < 15 → (cellAt 2 f l r ≡ c) × (not (unsettled c) ≡ true)
-settled-cell f l r c hl hr e h = go (unsettled (cellAt 2 f l r)) refl (sym (cell-of-form f l r hl hr) ∙ e)
-  where
-    go : (b : Bool) → unsettled (cellAt 2 f l r) ≡ b → cond b 15 (cellAt 2 f l r) ≡ c → (cellAt 2 f l r ≡ c) × (not (unsettled c) ≡ true)
-    go true u z = absurd (omega arith)
-    go false u z = (z, rw (← z, u))
-
-cell-settled : (f : Form) (l r c : ℕ) → l < 15 → r < 15 → cellAt 2 f l r ≡ c → not (unsettled c) ≡ true → cell3 (formNumber f) l r ≡ c
-cell-settled f l r c hl hr e u = cell-of-form f l r hl hr ∙ rw (e, not-true (unsettled c) u)
 
 module _ (may : ℕ → Wish) where
   -- levels under the number of their code
@@ -58,12 +45,12 @@ module _ (may : ℕ → Wish) where
         let s = q .member .sum in
         let a = s .has-first .can in
         let b = s .has-second .can in
-        let (z, u) = settled-cell f (p .at) (q .at) c (p .low) (q .low) (q .member .is) low in
+        let (z, _) = three .cell-in f (p .at) (q .at) c (p .low) (q .low) (q .member .is) low in
         let n = node-levels 2 f (p .at) (q .at) h z low (a .by) (b .by) in
         let i = joined-interleaves f true (a .runs) (b .runs) in
         let y = n .same-run in
         record {
-          settled = u;
+          settled = rw (← (q .member .is), cell-settled (formNumber f) (p .at) (q .at));
           can = record { runs = _; by = n .made; meets = rw y (meets-both i (a .meets) (b .meets)); fails = rw y (interleaved-failures i ∙ ap₂ _+_ (a .fails) (b .fails) ∙ s .adds) };
         }
 
@@ -75,7 +62,7 @@ module _ (may : ℕ → Wish) where
               let i′ = rw (sym (s .right-run)) at i in
               let x = meets-left i′ d (levels-of-leaves (s .right)) a in
               let w = meets-right i′ d (levels-of-leaves g) a in
-              let (v, v′) = closed-sides f (number 3 u) (number 3 (s .code)) c (number-small 3 u) (number-small 3 (s .code)) t (s .has-cell ∙ z) low in
+              let (cell, _, v, v′) = three .cell-kept f (number 3 u) (number 3 (s .code)) c (number-small 3 u) (number-small 3 (s .code)) t (s .has-cell ∙ z) low in
               record {
                 at = number 3 u;
                 low = number-small 3 u;
@@ -83,7 +70,7 @@ module _ (may : ℕ → Wish) where
                   at = number 3 (s .code);
                   low = number-small 3 (s .code);
                   member = record {
-                    is = cell-settled f (number 3 u) (number 3 (s .code)) c (number-small 3 u) (number-small 3 (s .code)) (s .has-cell ∙ z) t;
+                    is = cell;
                     sum = record {
                       first = failures (whole ps);
                       second = failures (whole (s .runs));

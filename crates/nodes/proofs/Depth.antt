@@ -108,19 +108,19 @@ module _ (b : List ℕ) where
     nested-deep (alone c e) = omega (arith, six-deeper _ c e)
     nested-deep (nested c e u x) = omega (arith, six-deeper _ c e, under-less u, nested-deep x)
 
-    pub depth-most : NotTooDeep b → (i : ℕ) → i < count b → depthAt b i ≤ mostUndos
-    depth-most h i c = go (decide (depthTest b i))
+    pub depth-most : (m : ℕ) → ((i : ℕ) → Nested b (suc m) i → ⊥) → (i : ℕ) → i < count b → depthAt b i ≤ m
+    depth-most m h i c = go (decide (leb (depthAt b i) m))
       where
-        go : (depthTest b i ≡ true) ⊎ (depthTest b i ≡ false) → depthAt b i ≤ mostUndos
-        go (inl e) = leb-true (depthAt b i) mostUndos e
-        go (inr e) = let x = below-deep mostUndos (begins mostUndos) i c (leb-false (depthAt b i) mostUndos e) in absurd (h (x .at) (x .is))
+        go : (leb (depthAt b i) m ≡ true) ⊎ (leb (depthAt b i) m ≡ false) → depthAt b i ≤ m
+        go (inl e) = leb-true (depthAt b i) m e
+        go (inr e) = let x = below-deep m (begins m) i c (leb-false (depthAt b i) m e) in absurd (h (x .at) (x .is))
 
     -- where each node but the last is named once, all stand under the last
-    pub last-most : EachNamedOnce b → depthAt b (count b - 1) ≤ mostUndos → NotTooDeep b
-    last-most once h i x = omega (arith, h, under-less (all-under-last b down once i (nested-present x)), nested-deep x)
+    pub last-most : (m : ℕ) → EachNamedOnce b → depthAt b (count b - 1) ≤ m → (i : ℕ) → Nested b (suc m) i → ⊥
+    last-most m once h i x = omega (arith, h, under-less (all-under-last b down once i (nested-present x)), nested-deep x)
 
     pub nested-say : (nestedOk b ≡ true) ↔ NotTooDeep b
     nested-say = (
       λ h i x. omega (arith, leb-true (depthAt b i) mostUndos (every-at (depthTest b) (count b) i h (nested-present x)), nested-deep x),
-      λ h. every-all (depthTest b) (count b) (λ i c. le-leb _ _ (depth-most h i c)),
+      λ h. every-all (depthTest b) (count b) (λ i c. le-leb _ _ (depth-most mostUndos h i c)),
     )

@@ -13,13 +13,13 @@ use Rattle.process.specs.Depth.{undoDepth}
 use Rattle.outcomes.specs.Codes.{Code, Ends, size, number}
 use Rattle.outcomes.specs.Sets.{Sets, Lawful, added, setOf, Leaves}
 use Rattle.outcomes.specs.Joins.{codeOf, take-nil}
-use Rattle.outcomes.specs.Families.{InFamilyBy}
+use Rattle.outcomes.specs.Families.{not-run, finished, failed, InFamilyBy}
 use Rattle.outcomes.specs.AnyLevels.{quietCodes, leafCodes, anyLevels, InPlanAt}
 use Rattle.outcomes.proofs.Interleavings.{union-empty, interleaved-set}
 use Rattle.outcomes.proofs.Levels.{Levels, l-none, l-run, whole, levels-of, joined-interleaves, parts, split}
 use Rattle.outcomes.proofs.Depth.{levels, levels-depth, left-levels, right-levels, no-levels}
 use Rattle.outcomes.proofs.Numbers.{number-small, code-of-number, number-step}
-use Rattle.outcomes.proofs.Members.{in-map, out-map, from-sides, in-node-family, out-node-family, not-run, finished, failed, in-leaf-family, out-leaf-family, in-done-family, out-done-family}
+use Rattle.outcomes.proofs.Members.{in-map, out-map, from-sides, in-node-family, out-node-family, in-leaf-family, out-leaf-family, in-done-family, out-done-family}
 use Rattle.outcomes.proofs.Nodes.{node-levels, final-run, cell-of-levels}
 
 -- the codes of `done`, up to n levels

@@ -1,26 +1,20 @@
--- Document 01's chart is exact for plans without a compensation in an undo side: its 245 cells are those of two levels, so its families are those of the chart of two levels;
--- the sets under 1 are those that succeeding runs leave, the sets under 5 and 6 those that failing runs leave.
+-- Document 01's chart is exact for plans without a compensation in an undo side: its 245 cells are those of two levels, so it is the whole of the chart of two levels; the sets
+-- under 1 are those that succeeding runs leave, the sets under 5 and 6 those that failing runs leave.
 use mathlib.Core.Path.{_≡_, refl, sym, _∙_}
 use mathlib.Core.Bool.{true}
 use mathlib.Core.List.{[], _∷_}
+use mathlib.Core.Logic.{_↔_}
 use Prim.Native.Nat.{ℕ}
-use native.Mathlib.Omega.{arith}
 use Rattle.process.specs.Process.{Status, ok, fail, Process}
 use Rattle.process.specs.Depth.{Flat}
 use Rattle.outcomes.specs.Codes.{Code, Ends, ends-ok, ends-fail, number, Final, final-1, final-5, final-6}
 use Rattle.outcomes.specs.Sets.{Sets, Lawful, Leaves}
 use Rattle.outcomes.specs.Families.{documentChart, InPlan}
-use Rattle.outcomes.specs.AnyLevels.{anyLevels}
 use Rattle.outcomes.proofs.Cells.{document-cell}
-use Rattle.outcomes.proofs.Parts.{PartOf, part-in, part-kept}
-use Rattle.outcomes.proofs.AnyLevels.{leaf-codes-low, exact-at}
+use Rattle.outcomes.proofs.Parts.{PartOf, Ending, exact-part}
 
--- document 01's chart is the whole of that of two levels
-two-levels : PartOf (λ c. true) (anyLevels 1) documentChart
+two-levels : PartOf 1 (λ c. true) documentChart
 two-levels = record {
-  some = omega arith;
-  finished-low = λ c i. leaf-codes-low 1 ok i;
-  failed-low = λ c i. leaf-codes-low 1 fail i;
   finished-in = λ c i. i;
   failed-in = λ c i. i;
   finished-kept = λ c k i. i;
@@ -40,9 +34,5 @@ final-code final-1 = (ok ∷ [], ends-ok, refl)
 final-code final-5 = (fail ∷ ok ∷ [], ends-fail ends-ok, refl)
 final-code final-6 = (fail ∷ fail ∷ ok ∷ [], ends-fail (ends-fail ends-ok), refl)
 
-module _ (S : Sets) (laws : Lawful S) where
-  pub plan-sound : {P : Process} {s : Status} {X : S .Set} → Flat P → InPlan S P s X → Leaves S P s X
-  plan-sound {P} {s} {X} h (c, f, m) = let (d, e, z) = final-code f in exact-at 1 S laws P s X h .0 (d, e, rw z (part-in two-levels S P m))
-
-  pub plan-complete : {P : Process} {s : Status} {X : S .Set} → Flat P → Leaves S P s X → InPlan S P s X
-  plan-complete {P} {s} {X} h x = let (c, e, m) = exact-at 1 S laws P s X h .1 x in (number 2 c, final-number e, part-kept two-levels S P refl m)
+pub plan-exact : (S : Sets) → Lawful S → (P : Process) (s : Status) (X : S .Set) → Flat P → InPlan S P s X ↔ Leaves S P s X
+plan-exact S laws P s X h = exact-part two-levels S (record { of-code = final-number; code = final-code; kept = λ f. refl }) laws P s X h

@@ -10,7 +10,7 @@ use borrow.Author.Tests.{eq-eqb}
 use Rattle.process.specs.Process.{ok, fail, Kind, permits, Form, Process, done, leaf, node}
 use Rattle.outcomes.specs.Sets.{Sets}
 use Rattle.outcomes.specs.Cells.{among}
-use Rattle.outcomes.specs.Families.{Numbered, ending, joint, outcomesBy, InFamilyBy, under, setsUnder}
+use Rattle.outcomes.specs.Families.{Numbered, LeafSet, not-run, finished, failed, ending, joint, outcomesBy, InFamilyBy, under, setsUnder}
 
 in-flatMap : {A B : Type 0} (k : A → List B) {x : A} {y : B} {xs : List A} → List·Memᴰ x xs → List·Memᴰ y (k x) → List·Memᴰ y (flatMap k xs)
 unfolding flatMap
@@ -78,25 +78,19 @@ module _ (N : Numbered) (S : Sets) where
       let (t, e) = out-cond (ltb (N .cellOf f (x .0) (y .0)) (N .codes)) k in
       from-sides i j (ap (λ o. o .0) (sym e)) (rw (ap (λ o. o .0) e) (ltb→lt _ _ t)) (ap (λ o. o .1) (sym e))
 
-  -- a leaf's: not run, finished or failed
-  pub data FromLeaf (A : S .Set) (finishes fails : Bool) (c : ℕ) (X : S .Set) : Type 0 where
-    not-run : c ≡ 0 → X ≡ S .empty → FromLeaf A finishes fails c X
-    finished : finishes ≡ true → List·Memᴰ c (N .finished) → X ≡ A → FromLeaf A finishes fails c X
-    failed : fails ≡ true → List·Memᴰ c (N .failed) → X ≡ S .empty → FromLeaf A finishes fails c X
-
   in-ending : (b : Bool) {codes : List ℕ} {c : ℕ} {A X : S .Set} → b ≡ true → List·Memᴰ c codes → X ≡ A → List·Memᴰ (c, X) (ending N S b codes A)
   in-ending b {c = c} {A = A} e i x = rw e (Memᴰ·cast (λ t. (c, x t)) (in-map (λ c. (c, A)) i))
 
   out-ending : (b : Bool) {codes : List ℕ} {c : ℕ} {A X : S .Set} → List·Memᴰ (c, X) (ending N S b codes A) → (b ≡ true) × List·Memᴰ c codes × (X ≡ A)
   out-ending true {codes} {A = A} m = let (d, i, e) = out-map (λ c. (c, A)) codes m in (refl, rw (sym (ap (λ o. o .0) e)) at i, ap (λ o. o .1) e)
 
-  pub in-leaf-family : (n : ℕ) (k : Kind) {c : ℕ} {X : S .Set} → FromLeaf (S .single n) (permits k ok) (permits k fail) c X → InFamilyBy N S (leaf n k) c X
+  pub in-leaf-family : (n : ℕ) (k : Kind) {c : ℕ} {X : S .Set} → LeafSet N (S .empty) (S .single n) (permits k ok) (permits k fail) c X → InFamilyBy N S (leaf n k) c X
   unfolding outcomesBy
   in-leaf-family n k (not-run e x) = List·Memᴰ·head (λ t. (e t, x t))
   in-leaf-family n k (finished a i x) = List·Memᴰ·tail (Memᴰ·append-left {s = ending N S (permits k ok) (N .finished) (S .single n)} _ (in-ending (permits k ok) a i x))
   in-leaf-family n k (failed a i x) = List·Memᴰ·tail (Memᴰ·append-right (ending N S (permits k ok) (N .finished) (S .single n)) (in-ending (permits k fail) a i x))
 
-  pub out-leaf-family : (n : ℕ) (k : Kind) {c : ℕ} {X : S .Set} → InFamilyBy N S (leaf n k) c X → FromLeaf (S .single n) (permits k ok) (permits k fail) c X
+  pub out-leaf-family : (n : ℕ) (k : Kind) {c : ℕ} {X : S .Set} → InFamilyBy N S (leaf n k) c X → LeafSet N (S .empty) (S .single n) (permits k ok) (permits k fail) c X
   unfolding outcomesBy
   out-leaf-family n k (List·Memᴰ·head e) = not-run (ap (λ o. o .0) e) (ap (λ o. o .1) e)
   out-leaf-family n k (List·Memᴰ·tail m) =
@@ -106,13 +100,13 @@ module _ (N : Numbered) (S : Sets) where
       ]
 
   -- `done` is as a leaf that finishes and adds nothing
-  pub in-done-family : {c : ℕ} {X : S .Set} → FromLeaf (S .empty) true false c X → InFamilyBy N S done c X
+  pub in-done-family : {c : ℕ} {X : S .Set} → LeafSet N (S .empty) (S .empty) true false c X → InFamilyBy N S done c X
   unfolding outcomesBy
   in-done-family (not-run e x) = List·Memᴰ·head (λ t. (e t, x t))
   in-done-family (finished a i x) = List·Memᴰ·tail (in-ending true refl i x)
   in-done-family (failed a i x) = absurd (true≢false (sym a))
 
-  pub out-done-family : {c : ℕ} {X : S .Set} → InFamilyBy N S done c X → FromLeaf (S .empty) true false c X
+  pub out-done-family : {c : ℕ} {X : S .Set} → InFamilyBy N S done c X → LeafSet N (S .empty) (S .empty) true false c X
   unfolding outcomesBy
   out-done-family (List·Memᴰ·head e) = not-run (ap (λ o. o .0) e) (ap (λ o. o .1) e)
   out-done-family (List·Memᴰ·tail m) = let (a, j, x) = out-ending true m in finished a j x

@@ -2,7 +2,7 @@
 use Rattle.outcomes.specs.Sets.{Sets, Lawful, numbers}
 use Rattle.outcomes.specs.OutcomeChart.{Exact, OutcomeChart}
 use Rattle.outcomes.proofs.Exact.{sound, complete}
-use Rattle.outcomes.proofs.Families.{plan-sound, plan-complete}
+use Rattle.outcomes.proofs.Families.{plan-exact}
 use Rattle.outcomes.proofs.ActionSets.{numbers-lawful}
 
 exact : (S : Sets) → Lawful S → Exact S
@@ -10,7 +10,7 @@ exact S laws =
     record {
       sound = λ P c s X e i. sound S laws e i;
       complete = λ P r s d. complete S laws d;
-      families = λ P s X h. (λ m. plan-sound S laws {P = P} h m, λ d. plan-complete S laws h d);
+      families = plan-exact S laws;
     }
 
 pub outcome-chart : OutcomeChart

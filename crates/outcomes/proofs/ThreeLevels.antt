@@ -3,24 +3,23 @@
 use mathlib.Core.Path.{_≡_, refl, sym, _∙_}
 use mathlib.Core.Bool.{Bool, true, false, cond, not, _&&_, _||_, true≢false}
 use mathlib.Core.List.{[], _∷_, List·Memᴰ, List·Memᴰ·head, List·Memᴰ·tail}
+use mathlib.Core.Logic.{_↔_}
 use Prim.Native.Nat.{ℕ, _<_}
 use native.Mathlib.Omega.{arith}
 use lib.Dec.{T}
 use borrow.Author.Tests.{le-ltb, not-true}
 use lib.Dec.{ltb}
 use Rattle.process.specs.Process.{Status, ok, fail, Form, sequence, parallel, choice, compensation, handler, Process}
-use Rattle.process.specs.Forms.{formNumber}
+use Rattle.process.specs.Forms.{formNumber, formOf}
 use Rattle.process.specs.Depth.{Shallow}
 use Rattle.outcomes.specs.Codes.{Code, Ends, ends-ok, ends-fail, number}
 use Rattle.outcomes.specs.Sets.{Sets, Lawful, Leaves}
 use Rattle.outcomes.specs.LevelCells.{cellAt}
 use Rattle.outcomes.specs.ThreeLevels.{unsettled, settledCell, cell3, threeLevels, Final3, final-1, final-9, final-13, final-14, finals, InPlan3, planSets}
-use Rattle.outcomes.specs.AnyLevels.{anyLevels}
 use Rattle.outcomes.proofs.Table.{both-hold, below, at-number}
 use Rattle.outcomes.proofs.Cells.{same-form, form-low}
 use Rattle.outcomes.proofs.Members.{in-sets-under, out-sets-under}
-use Rattle.outcomes.proofs.Parts.{PartOf, part-in, part-kept}
-use Rattle.outcomes.proofs.AnyLevels.{leaf-codes-low, exact-at}
+use Rattle.outcomes.proofs.Parts.{PartOf, exact-part}
 
 -- a code that is settled, and not 15, has settled sides
 abbrev settled : ℕ → Bool
@@ -46,27 +45,35 @@ sides-settled true b c d t x y = absurd (true≢false x)
 sides-settled false true c d t x y = absurd (true≢false y)
 sides-settled false false c d t x y = let (u, v) = both-hold c d t in (T-true c u, T-true d v)
 
-pub closed-sides : (f : Form) (l r c : ℕ) → l < 15 → r < 15 → settled c ≡ true → cellAt 2 f l r ≡ c → c < 15 → (settled l ≡ true) × (settled r ≡ true)
+closed-sides : (f : Form) (l r c : ℕ) → l < 15 → r < 15 → settled c ≡ true → cellAt 2 f l r ≡ c → c < 15 → (settled l ≡ true) × (settled r ≡ true)
 closed-sides f l r c hl hr k e h =
     sides-settled (unsettled (cellAt 2 f l r)) (ltb 14 (cellAt 2 f l r)) (settled l) (settled r)
     (at-number 15 (λ r. closed f l r) (at-number 15 (λ l. below 15 (λ r. closed f l r)) (tested f) l hl) r hr) (rw e (not-true (unsettled c) k)) (rw e (le-ltb 14 c (omega arith)))
 
 -- the table's cell of a form is that of three levels, where it is settled
-pub cell-of-form : (f : Form) (l r : ℕ) → l < 15 → r < 15 → cell3 (formNumber f) l r ≡ settledCell f l r
+cell-of-form : (f : Form) (l r : ℕ) → l < 15 → r < 15 → cell3 (formNumber f) l r ≡ settledCell f l r
 unfolding cell3
 cell-of-form f l r hl hr =
     let (a, b) = form-low f in
     simp (le-ltb (formNumber f) 3 a, le-ltb 7 (formNumber f) b, le-ltb 14 l (omega arith), le-ltb 14 r (omega arith), same-form f)
 
+-- no cell gives a code that is not settled
+settled-unless : (b : Bool) (c : ℕ) → (b ≡ false → unsettled c ≡ false) → unsettled (cond b 15 c) ≡ false
+settled-unless true c h = refl
+settled-unless false c h = h refl
+
+pub cell-settled : (form l r : ℕ) → unsettled (cell3 form l r) ≡ false
+unfolding cell3
+cell-settled form l r =
+    settled-unless (ltb form 3) _ (λ e₁. settled-unless (ltb 7 form) _ (λ e₂. settled-unless (ltb 14 l) _ (λ e₃. settled-unless (ltb 14 r) _ (λ e₄.
+    settled-unless (unsettled (cellAt 2 (formOf form) l r)) (cellAt 2 (formOf form) l r) (λ e. e)))))
+
 taken : (b : Bool) (n c : ℕ) → cond b 15 n ≡ c → c < 15 → n ≡ c
 taken true n c e h = absurd (omega arith)
 taken false n c e h = e
 
-three : PartOf settled (anyLevels 2) threeLevels
+pub three : PartOf 2 settled threeLevels
 three = record {
-  some = omega arith;
-  finished-low = λ c i. leaf-codes-low 2 ok i;
-  failed-low = λ c i. leaf-codes-low 2 fail i;
   finished-in = λ c i. i;
   failed-in = λ c i. List·Memᴰ·tail i;
   finished-kept = λ c k i. i;
@@ -98,12 +105,8 @@ final-settled final-9 = refl
 final-settled final-13 = refl
 final-settled final-14 = refl
 
-module _ (S : Sets) (laws : Lawful S) where
-  pub sets-sound : (P : Process) {s : Status} {X : S .Set} → Shallow P → InPlan3 S P s X → Leaves S P s X
-  sets-sound P {s} {X} h (c, f, m) = let (d, e, z) = final-code f in exact-at 2 S laws P s X h .0 (d, e, rw z (part-in three S P m))
-
-  pub sets-complete : (P : Process) {s : Status} {X : S .Set} → Shallow P → Leaves S P s X → InPlan3 S P s X
-  sets-complete P {s} {X} h x = let (c, e, m) = exact-at 2 S laws P s X h .1 x in (number 3 c, final-number e, part-kept three S P (final-settled (final-number e)) m)
+pub sets-exact : (S : Sets) → Lawful S → (P : Process) (s : Status) (X : S .Set) → Shallow P → InPlan3 S P s X ↔ Leaves S P s X
+sets-exact S laws P s X h = exact-part three S (record { of-code = final-number; code = final-code; kept = final-settled }) laws P s X h
 
 -- the plan's list of sets
 final-member : {c : ℕ} {s : Status} → Final3 c s → List·Memᴰ c finals

@@ -1,5 +1,6 @@
 -- The families of sets that a chart over the numbers of codes computes, by the rule of document 01's "Outcome chart": for each process the list of its sets with
 -- their codes. Document 01's own chart has the 245 cells, and the whole plan's sets are those under 1, 5 and 6.
+use mathlib.Core.Path.{_≡_}
 use mathlib.Core.Bool.{Bool, true, false, cond}
 use mathlib.Core.List.{List, [], _∷_, _++_, map, flatMap, List·Memᴰ}
 use Prim.Native.Nat.{ℕ}
@@ -17,6 +18,13 @@ pub record Numbered : Type 0 where
   pub finished : List ℕ
   pub failed : List ℕ
   pub cellOf : Form → ℕ → ℕ → ℕ
+
+-- What a chart gives a leaf that may finish, and may fail: under 0, not run, the empty set; under the codes of one that finished its own set; under those of one that failed
+-- the empty set.
+pub data LeafSet (N : Numbered) {Set : Type 0} (empty own : Set) (finishes fails : Bool) (c : ℕ) (X : Set) : Type 0 where
+  not-run : c ≡ 0 → X ≡ empty → LeafSet N empty own finishes fails c X
+  finished : finishes ≡ true → List·Memᴰ c (N .finished) → X ≡ own → LeafSet N empty own finishes fails c X
+  failed : fails ≡ true → List·Memᴰ c (N .failed) → X ≡ empty → LeafSet N empty own finishes fails c X
 
 module _ (N : Numbered) (S : Sets) where
   -- A code and a set under it.

@@ -1,4 +1,5 @@
--- The chart as a table over the numbers of the codes of suc n levels, for any n: of two levels it is document 01's 245 cells, of three the verdict's.
+-- The chart as a table over the numbers of the codes of suc n levels, for any n: of two levels it is document 01's 245 cells, and the verdict's cells are those of three
+-- that are settled.
 use mathlib.Core.Bool.{Bool, true, false, cond}
 use mathlib.Core.List.{[], _∷_}
 use Prim.Native.Nat.{ℕ, zero, suc}

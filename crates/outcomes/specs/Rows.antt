@@ -1,5 +1,5 @@
 -- The table of three levels row by row, as the code has it: for a form 3 to 7 and a left code 0 to 14 one number, whose hexadecimal digit r, counted from the right, is one
--- more than the code of the cell with the right code r, and 0 where that cannot occur. So a row is over where the rest of it is 0.
+-- more than the code of the cell with the right code r, and 0 where that cannot occur or is not settled. So a row is over where the rest of it is 0.
 use mathlib.Core.Bool.{cond}
 use mathlib.Core.List.{List}
 use Prim.Native.Nat.{ℕ, zero, suc, _+_, _-_, _*_, _/_, _%_, _^_}

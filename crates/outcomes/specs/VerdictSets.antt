@@ -1,11 +1,15 @@
 -- What is promised of the sets of three levels, which the verdict computes: they are just those that complete runs leave, for undos up to two deep; and of a plan
 -- without a compensation in an undo side they are those of document 01's chart. `VerdictSets` is the statement; its proof is `verdict-sets`.
+use mathlib.Core.Path.{_≡_}
 use mathlib.Core.List.{List·Memᴰ}
 use mathlib.Core.Logic.{_↔_}
-use Prim.Native.Nat.{ℕ, _≤_}
-use Rattle.process.specs.Process.{Status, Process}
+use Prim.Native.Nat.{ℕ, _≤_, _<_}
+use Rattle.process.specs.Process.{Status, Form, Process}
+use Rattle.process.specs.Forms.{formNumber}
 use Rattle.process.specs.Depth.{undoDepth, Flat, Shallow}
 use Rattle.outcomes.specs.Sets.{Sets, Lawful, numbers, Leaves}
+use Rattle.outcomes.specs.Cells.{cell}
+use Rattle.outcomes.specs.LevelCells.{cellAt}
 use Rattle.outcomes.specs.Families.{InPlan}
 use Rattle.outcomes.specs.ThreeLevels.{InPlan3, planSets}
 use Rattle.outcomes.specs.AnyLevels.{InPlanAt}
@@ -25,3 +29,5 @@ pub record VerdictSets : Type 1 where
   pub any-sets : (S : Sets) → Lawful S → ExactSets S
   -- for numbers with bitwise or, whatever number each leaf adds
   pub action-sets : (single : ℕ → ℕ) → ExactSets (numbers single)
+  -- both are charts of one kind: each of document 01's 245 cells is that of two levels, by the rules of `Join`, as the verdict's are of three
+  pub document-cells : (f : Form) (l r : ℕ) → l < 7 → r < 7 → cell (formNumber f) l r ≡ cellAt 1 f l r

@@ -1,5 +1,5 @@
 // The table of three levels, which the verdict is over, as rows of hexadecimal digits: for forms 3 to 7 and left codes 0 to 14 one number, whose digit r, counted from the
-// right, is one more than the code of a node whose right side has the code r, and 0 where the two cannot occur.
+// right, is one more than the code of a node whose right side has the code r, and 0 where the two cannot occur, or what they give is not settled.
 ghost use mathlib.Core.Path.{_≡_};
 ghost use Rattle.outcomes.specs.Rows.{rows, rowIn};
 

@@ -3,6 +3,7 @@ use mathlib.Core.Path.{_≡_}
 use mathlib.Core.List.{List}
 use Prim.Native.Nat.{ℕ}
 use native.Mathlib.Omega.{arith}
+use Rattle.process.specs.Depth.{mostUndos}
 use Rattle.bodies.proofs.Most.{no-fourth, most-pairs}
 use Rattle.plan.specs.Reading.{bytesOf, readOf}
 use Rattle.plan.specs.Demand1.{InARow, Demand1}
@@ -43,7 +44,8 @@ demand1 = record {
   refuses-within = λ actionLimit pairLimit few s bytes n. refused-exactly actionLimit pairLimit few s bytes n;
   no-fourth = λ actions pairs legal. no-fourth actions pairs legal;
   most-pairs = λ actionLimit actions pairs five few legal. most-pairs actions pairs legal actionLimit five few;
-  levels = λ actions types nodes forms once some. levels-say types nodes (λ i c f. forms i c .parts f) once some;
+  levels = λ actions types nodes forms once some. levels-say mostUndos types nodes (λ i c f. forms i c .parts f) once some;
+  flat = λ actions types nodes forms once some. levels-say 1 types nodes (λ i c f. forms i c .parts f) once some;
   blocks = in-blocks;
   holds = λ s l h. accepted-holds mostActions mostPairs (omega arith) s l h;
   most = λ s l h. most-bytes mostActions mostPairs s l (laid s l h);

@@ -6,10 +6,10 @@ use mathlib.Core.Logic.{_↔_}
 use Prim.Native.Nat.{ℕ, _+_, _-_, _*_, _≤_, _<_}
 use lib.ListN.{length, take}
 use Rattle.process.specs.Leaves.{AsWritten, HasLeaf, Distinct}
-use Rattle.process.specs.Depth.{Shallow}
+use Rattle.process.specs.Depth.{Flat, Shallow}
 use Rattle.blocks.specs.Block.{block}
 use Rattle.bodies.specs.Pairs.{Pairs, pairCount, first}
-use Rattle.nodes.specs.Nodes.{count, form, FormRules, EachNamedOnce, Under, NotTooDeep}
+use Rattle.nodes.specs.Nodes.{count, form, FormRules, EachNamedOnce, Under, Nested, NotTooDeep}
 use Rattle.plan.specs.PlanFile.{mostActions, mostPairs, mostBytes, Bytes, Bodies, PlanFile}
 use Rattle.plan.specs.Refusals.{Broken}
 use Rattle.plan.specs.Reading.{bytesOf, endOf, readWithin, readOf}
@@ -61,6 +61,9 @@ pub record Demand1 : Type 0 where
   -- of nodes that neither 6 nor 7 is for, 8 is for just those whose process has more levels of undos than a plan may have
   pub levels : (actions : ℕ) (types nodes : List ℕ) → FormRules actions nodes → EachNamedOnce nodes → 1 ≤ count nodes
       → NotTooDeep nodes ↔ Shallow (processOf types nodes)
+  -- and the outcome chart is for just those in which no compensation stands in the right side of another
+  pub flat : (actions : ℕ) (types nodes : List ℕ) → FormRules actions nodes → EachNamedOnce nodes → 1 ≤ count nodes
+      → ((i : ℕ) → Nested nodes 2 i → ⊥) ↔ Flat (processOf types nodes)
   -- the bodies of an accepted file are those of its blocks, and hold what document 01 permits
   pub blocks : (s : List ℕ) → Bytes s → (l : Layout) → readOf s ≡ Accepted l → InBlocks s l
   pub holds : (s : List ℕ) (l : Layout) → readOf s ≡ Accepted l → Holds mostActions mostPairs s l

@@ -1,24 +1,25 @@
 -- Summaries are exact: a leaf's since its sets are those that the chart gives it; a node's, under the settled codes above 0, by the members of its computed family, under 0
 -- since only the cell (0,0) gives 0, and under the others since no cell gives them.
 use mathlib.Core.Path.{_≡_, refl, sym, _∙_, subst}
-use mathlib.Core.Bool.{Bool, true, false, cond, not, _&&_, _||_}
+use mathlib.Core.Bool.{Bool, true, false, not, _&&_, _||_}
 use mathlib.Core.Logic.{inl, inr}
 use Prim.Native.Nat.{ℕ, _+_, _-_, _≤_, _<_}
 use native.Mathlib.Omega.{arith}
 use borrow.Author.Tests.{eq-eqb}
-use lib.Dec.{T, eqb, eqb→eq, ltb}
+use lib.Dec.{T, eqb, eqb→eq}
 use Rattle.family.specs.Family.{In}
 use Rattle.family.proofs.Numbers.{same-or-other, below-or-above}
 use Rattle.process.specs.Process.{ok, fail, Kind, permits, Process, leaf, node}
 use Rattle.process.specs.Forms.{formOf, formNumber}
 use Rattle.outcomes.specs.Sets.{numbers}
+use Rattle.outcomes.specs.Families.{LeafSet, not-run, finished, failed}
 use Rattle.outcomes.specs.LevelCells.{cellAt}
 use Rattle.outcomes.specs.ThreeLevels.{unsettled, cell3, threeLevels, InFamily3}
 use Rattle.outcomes.proofs.Table.{both-hold, below, at-number}
-use Rattle.outcomes.proofs.Members.{FromLeaf, from-sides, in-leaf-family, out-leaf-family, in-node-family, out-node-family}
-use Rattle.outcomes.proofs.Members as members
+use Rattle.outcomes.proofs.ThreeLevels.{cell-settled}
+use Rattle.outcomes.proofs.Members.{from-sides, in-leaf-family, out-leaf-family, in-node-family, out-node-family}
 use Rattle.summary.specs.declared.Summary.{Summary}
-use Rattle.summary.specs.Summary.{familyOf, LeafSet, not-run, finished, failed, LeafSummary}
+use Rattle.summary.specs.Summary.{familyOf, LeafSummary}
 use Rattle.summary.specs.Node.{NodeSummary}
 use Rattle.summary.specs.Exact.{Exact, Computes}
 use Rattle.summary.proofs.Codes.{empty-set, beyond, none-unsettled}
@@ -56,44 +57,17 @@ module _ (form : ℕ) (h : 3 ≤ form) (l : form ≤ 7) where
       let at-cell : T (cell-test form left right) = at-number 15 (λ r. cell-test form left r) (at-number 15 (λ l. below 15 (λ r. cell-test form l r)) at-form left a) right b in
       eqb→eq _ _ (rw (eq-eqb (cell3 form left right) 0 e) at at-cell)
 
--- no cell gives a code that is not settled
-settled-unless : (b : Bool) (c : ℕ) → (b ≡ false → unsettled c ≡ false) → unsettled (cond b 15 c) ≡ false
-settled-unless true c h = refl
-settled-unless false c h = h refl
-
-pub cell-settled : (form l r : ℕ) → unsettled (cell3 form l r) ≡ false
-unfolding cell3
-cell-settled form l r =
-    settled-unless (ltb form 3) _ (λ e₁. settled-unless (ltb 7 form) _ (λ e₂. settled-unless (ltb 14 l) _ (λ e₃. settled-unless (ltb 14 r) _ (λ e₄.
-    settled-unless (unsettled (cellAt 2 (formOf form) l r)) (cellAt 2 (formOf form) l r) (λ e. e)))))
-
 -- a leaf
 module _ (single : ℕ → ℕ) (n : ℕ) (k : Kind) where
-  abbrev OfLeaf : ℕ → ℕ → Type 0
-  OfLeaf = LeafSet (single n) (permits k ok) (permits k fail)
-
-  abbrev ByChart : ℕ → ℕ → Type 0
-  ByChart = FromLeaf threeLevels (numbers single) (single n) (permits k ok) (permits k fail)
-
-  to-chart : {code t : ℕ} → OfLeaf code t → ByChart code t
-  to-chart (not-run c z) = members.not-run c z
-  to-chart (finished m c z) = members.finished m c z
-  to-chart (failed m c z) = members.failed m c z
-
-  of-chart : {code t : ℕ} → ByChart code t → OfLeaf code t
-  of-chart (members.not-run c z) = not-run c z
-  of-chart (members.finished m c z) = finished m c z
-  of-chart (members.failed m c z) = failed m c z
-
-  small-set : {code t : ℕ} → single n < 1024 → OfLeaf code t → t < 1024
+  small-set : {code t : ℕ} → single n < 1024 → LeafSet threeLevels 0 (single n) (permits k ok) (permits k fail) code t → t < 1024
   small-set l (not-run c z) = omega arith
   small-set l (finished m c z) = omega arith
   small-set l (failed m c z) = omega arith
 
   of-leaf : (s : Summary) → single n < 1024 → LeafSummary (single n) (permits k ok) (permits k fail) s → Exact single s (leaf n k)
   of-leaf s l h code t = (
-    (λ on. in-leaf-family threeLevels (numbers single) n k (to-chart (h .sound code t on))),
-    λ m. let o = of-chart (out-leaf-family threeLevels (numbers single) n k m) in h .complete code t (small-set l o) o,
+    (λ on. in-leaf-family threeLevels (numbers single) n k (h .sound code t on)),
+    λ m. let o = out-leaf-family threeLevels (numbers single) n k m in h .complete code t (small-set l o) o,
   )
 
 -- a node

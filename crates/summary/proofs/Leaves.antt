@@ -6,16 +6,18 @@ use Prim.Native.Nat.{ℕ, _<_}
 use Rattle.family.specs.Family.{In, Empty}
 use Rattle.family.proofs.Words.{none-empty}
 use Rattle.summary.specs.declared.Summary.{Summary}
-use Rattle.summary.specs.Summary.{familyOf, Only, LeafSet, not-run, finished, failed, LeafSummary}
+use Rattle.outcomes.specs.Families.{LeafSet, not-run, finished, failed}
+use Rattle.outcomes.specs.ThreeLevels.{threeLevels}
+use Rattle.summary.specs.Summary.{familyOf, Only, LeafSummary}
 use Rattle.summary.proofs.Codes.{any-code, empty-set, no-words}
 
 module _ (set : ℕ) (finishes fails : Bool) (done undone none : List ℕ) (p : Only set finishes done) (q : Only 0 fails undone) (e : Empty none) where
   abbrev leafOf : Summary
   leafOf = record { s1 = done; s2 = done; s3 = done; s4 = none; s6 = none; s7 = none; s9 = undone; s10 = undone; s11 = none; s13 = none; s14 = none }
 
-  sound : (code t : ℕ) → In (familyOf leafOf code) t → LeafSet set finishes fails code t
+  sound : (code t : ℕ) → In (familyOf leafOf code) t → LeafSet threeLevels 0 set finishes fails code t
   sound code t =
-      any-code (λ code f. In f t → LeafSet set finishes fails code t) leafOf (λ on. not-run refl (empty-set .sound t on .0))
+      any-code (λ code f. In f t → LeafSet threeLevels 0 set finishes fails code t) leafOf (λ on. not-run refl (empty-set .sound t on .0))
       (λ on. finished (p .sound t on .0) (List·Memᴰ·head refl) (p .sound t on .1))
       (λ on. finished (p .sound t on .0) (List·Memᴰ·tail (List·Memᴰ·head refl)) (p .sound t on .1))
       (λ on. finished (p .sound t on .0) (List·Memᴰ·tail (List·Memᴰ·tail (List·Memᴰ·head refl))) (p .sound t on .1))
@@ -31,7 +33,7 @@ module _ (set : ℕ) (finishes fails : Bool) (done undone none : List ℕ) (p : 
       (λ code l on. absurd (no-words t on))
       code
 
-  complete : {code t : ℕ} → t < 1024 → LeafSet set finishes fails code t → In (familyOf leafOf code) t
+  complete : {code t : ℕ} → t < 1024 → LeafSet threeLevels 0 set finishes fails code t → In (familyOf leafOf code) t
   complete l (not-run c z) = rw (c, z) (empty-set .complete (rw z at l))
   complete l (finished m (List·Memᴰ·head c) z) = rw (c, z) (p .complete m (rw z at l))
   complete l (finished m (List·Memᴰ·tail (List·Memᴰ·head c)) z) = rw (c, z) (p .complete m (rw z at l))

@@ -1,6 +1,6 @@
 -- The summary of a node from those of its sides, by cells: "for each cell .. every union of one left set under the cell's left code and
--- one right set under its right code". `cells l r` is the code of the left code l and the right code r; in the outcome chart, for a node of a
--- form, `cell3 form`.
+-- one right set under its right code". `cells l r` is the code of the left code l and the right code r; in the chart of three levels, for a
+-- node of a form, `cell3 form`.
 use mathlib.Core.Path.{_≡_}
 use mathlib.Core.Bool.{false}
 use mathlib.Core.List.{List}

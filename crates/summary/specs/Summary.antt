@@ -2,10 +2,11 @@
 -- codes above 0 that are settled have families; the codes 5, 8 and 12 are no part of a complete run, and have no sets.
 use mathlib.Core.Path.{_≡_}
 use mathlib.Core.Bool.{Bool, true}
-use mathlib.Core.List.{List, [], _∷_, List·Memᴰ}
+use mathlib.Core.List.{List, [], _∷_}
 use Prim.Native.Nat.{ℕ, _<_}
 use lib.ListN.{getD, set, replicate}
 use Rattle.family.specs.Family.{In}
+use Rattle.outcomes.specs.Families.{LeafSet}
 use Rattle.outcomes.specs.ThreeLevels.{threeLevels}
 use Rattle.summary.specs.declared.Summary.{Summary}
 
@@ -29,13 +30,7 @@ pub record Only (set : ℕ) (may : Bool) (r : List ℕ) : Type 0 where
   pub sound : (t : ℕ) → In r t → (may ≡ true) × (t ≡ set)
   pub complete : may ≡ true → set < 1024 → In r set
 
--- What the chart gives a leaf: under the codes of one that finished its own set alone (skip: the empty set), under those of one that failed the empty set.
-pub data LeafSet (set : ℕ) (finishes fails : Bool) (code t : ℕ) : Type 0 where
-  not-run : code ≡ 0 → t ≡ 0 → LeafSet set finishes fails code t
-  finished : finishes ≡ true → List·Memᴰ code (threeLevels .finished) → t ≡ set → LeafSet set finishes fails code t
-  failed : fails ≡ true → List·Memᴰ code (threeLevels .failed) → t ≡ 0 → LeafSet set finishes fails code t
-
--- The summary has a leaf's action sets and no others.
+-- The summary has the action sets that the chart of three levels gives a leaf (a skip's own set is the empty one), and no others.
 pub record LeafSummary (set : ℕ) (finishes fails : Bool) (s : Summary) : Type 0 where
-  pub sound : (code t : ℕ) → In (familyOf s code) t → LeafSet set finishes fails code t
-  pub complete : (code t : ℕ) → t < 1024 → LeafSet set finishes fails code t → In (familyOf s code) t
+  pub sound : (code t : ℕ) → In (familyOf s code) t → LeafSet threeLevels 0 set finishes fails code t
+  pub complete : (code t : ℕ) → t < 1024 → LeafSet threeLevels 0 set finishes fails code t → In (familyOf s code) t

@@ -1,4 +1,4 @@
-// A node's summary: for each settled code above 0 the family of the action sets that the outcome chart gives it. The summary of a leaf, and
+// A node's summary: for each settled code above 0 the family of the action sets that the chart of three levels gives it. The summary of a leaf, and
 // of a node from those of its two sides.
 ghost use mathlib.Core.Path.{_≡_};
 ghost use Prim.Native.Nat.{_<_};

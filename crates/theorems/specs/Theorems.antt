@@ -1,4 +1,4 @@
--- The theorems on Figure 2 that the product rests on. The first two are for undos of any depth. `theorems` in proofs/ proves them.
+-- The theorems on Figure 2 that the product rests on, each for undos of any depth, and for the depth that the code's numbers serve. `theorems` in proofs/ proves them.
 use Rattle.runs.specs.Beginnings.{BeginningsTold}
 use Rattle.outcomes.specs.OutcomeChart.{OutcomeChart}
 use Rattle.outcomes.specs.VerdictSets.{VerdictSets}
