@@ -6,7 +6,7 @@ ghost use Rattle.area.specs.Area.{codeAt, wordAt, wordsAt, loaded, WordW
 use summary::Summary;
 
 // The bytes of a summary, and the codes whose families lie there, in this order.
-pub const SIZE: usize = 1408;
+const SIZE: usize = 1408;
 
 const CODES: [u8; 11] = [1, 2, 3, 4, 6, 7, 9, 10, 11, 13, 14];
 

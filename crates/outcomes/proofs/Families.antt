@@ -11,7 +11,7 @@ use Rattle.outcomes.specs.Codes.{Code, Ends, ends-ok, ends-fail, number,
 use Rattle.outcomes.specs.Sets.{Sets, Lawful, Leaves}
 use Rattle.outcomes.specs.Families.{documentChart, InPlan}
 use Rattle.outcomes.proofs.Cells.{document-cell}
-use Rattle.outcomes.proofs.Parts.{PartOf, Ending, exact-part}
+use Rattle.outcomes.proofs.Parts.{PartOf, exact-part}
 
 two-levels : PartOf 1 (λ c. true) documentChart
 two-levels = record {

@@ -7,8 +7,8 @@ pub mod Table
 pub mod Cells
 pub mod Nodes
 pub mod Members
-pub mod Parts
 pub mod AnyLevels
+pub mod Parts
 pub mod Families
 pub mod ActionSets
 pub mod OutcomeChart
