@@ -6,9 +6,8 @@ use mathlib.Core.List.{[], _∷_, List·Memᴰ, List·Memᴰ·head, List·Memᴰ
 use mathlib.Core.Logic.{_↔_}
 use Prim.Native.Nat.{ℕ, _<_}
 use native.Mathlib.Omega.{arith}
-use lib.Dec.{T}
+use lib.Dec.{T, ltb}
 use borrow.Author.Tests.{le-ltb, not-true}
-use lib.Dec.{ltb}
 use Rattle.process.specs.Process.{Status, ok, fail, Form, sequence, parallel, choice, compensation, handler, Process}
 use Rattle.process.specs.Forms.{formNumber, formOf}
 use Rattle.process.specs.Depth.{Shallow}
