@@ -1,12 +1,13 @@
 #!/usr/bin/env python3
 """Writes the vectors of the program `compare` anew: tests/make_vectors.py MODEL
 
-MODEL is the folder of the model (plans.py says which). Written: crates/compare/data/files, runs and verdicts, what each program reads
-and is to write (stdin, stdout, args and data in its crate), the plans of the course, crates/course/data, and the stored cases but those that stand
-for the front door alone, tests/stored and tests/files.
+MODEL is the folder of the model (plans.py says which). Written: crates/compare/data/files, runs, hours and verdicts, what each program reads
+and is to write (stdin, stdout, args and data in its crate), the plans of the course and their window file, crates/course/data, and the stored cases but those that
+stand for the front door alone, tests/stored and tests/files.
 docs/VECTORS.md has the format. The numbers expected are the model's. Where the papers name one, the script ends if the model has another.
 Nothing but the seeds below decides what is made, so that a second run writes the same bytes.
 """
+import collections
 import functools
 import itertools
 import os
@@ -15,14 +16,17 @@ import sys
 
 import levels
 import nested
-from office import DELETE, MENDED, RESTORE, RESTORED, RETRIED, SWALLOWED, TELL, WITHDRAWN
+from hours import hours_vectors
+from madeup import broken
+from office import DELETE, HALL, MENDED, RESTORE, RESTORED, RETRIED, SWALLOWED, TELL, WITHDRAWN
 from parallels import every_run, every_set
 from plainest import every_set_left
 from plans import (CHOICE, COMPENSATION, HANDLER, PARALLEL, SEQUENCE, SKIP, THROW, TRIES, TWENTY_ONE, block, blocks_of, damaged, deepest, flat, model_in, named,
                    nested_plan, number_of, random_plan, whole)
-from sessions import Model, permitted, random_entries, session_of
+from sessions import MOST_FILE, Model, job_of, permitted, random_entries, real_job, session_of
 from shown import RECORD
-from stored import chart_lines, inspect_lines, other_records, stored_cases, verdict_lines
+from steps import MADE_UP as MADE_UP_JOB, SESSION, TIMED_SESSION, answers_in, made_up_job, number_in, start_of, started, steps_in
+from stored import WINDOWS, chart_lines, inspect_lines, other_records, stored_cases, verdict_lines
 from verdicts import verdict_vectors
 
 SEED_PLANS, PLANS = 20071, 300
@@ -38,8 +42,6 @@ SEED_NESTED_MANY, NESTED_MANY = 20083, 40
 SEED_NESTED_MADE_UP, NESTED_MADE_UP = 20084, 6
 # what the program has room for: the bytes of a name, and of a data file
 NAME_ROOM, DATA_ROOM = 64, 1048576
-# the bytes of the largest file, which a job has room for
-MOST_FILE = 384
 
 P1 = bytes.fromhex('03 00 01 00 03 01 03 02 00 02 00 00 01 0F 00 03 00 00 00 00 00 01 00 06 00 01 00 02 00 03 02 03'
                    '09 00 04 00 00 02 81 00 80 02 80 81 82')
@@ -132,6 +134,11 @@ def examples_of_table():
     yield '8: a third level', 8, whole([1], (), THIRD)
     yield '9: 80 alone, as it stands', None, bytes([0x80])
     yield '9: 80 alone', 9, whole([1], (), [SKIP], [0x80])
+
+
+def example_of_number():
+    """of the examples for each number the last, which is a whole file"""
+    return {number: file for _, number, file in examples_of_table() if number}
 
 
 def edges_of_lengths():
@@ -439,22 +446,6 @@ def long_nested_plans():
         yield f'an undo of 14 parts of form {form}', handled(over(COMPENSATION, action(0), over(SEQUENCE, many(14, part), [THROW])))
 
 
-def answer_of(told, number=0):
-    """what a vector holds of an answer: its number where it is a refusal, and else 0, the leaves that may come, the end"""
-    if told is None:
-        return bytes([number]) + bytes(9)
-    return bytes([0]) + sum(1 << n for n in told[0]).to_bytes(8, 'little') + bytes([(None, 'ok', 'fail').index(told[1])])
-
-
-def step_of(entry, told):
-    return bytes(entry) + answer_of(told, 11)
-
-
-def started(file, start, steps):
-    """a plan file, what the start tells, and entries with what is told to each"""
-    return bytes([0]) + len(file).to_bytes(2, 'little') + file + answer_of(start) + b''.join(step_of(*step) for step in steps)
-
-
 def session_body(rng, cells, file, most):
     """a session at random"""
     model = Model(cells, file)
@@ -475,7 +466,7 @@ def nested_session_body(rng, cells, leaves, most):
 def run_body(cells, file, entries):
     """a session with these entries"""
     model = Model(cells, file)
-    return started(file, model.told, ((entry, model.take(entry)) for entry in entries))
+    return started(file, model.told, ((entry, None, model.answer(entry)) for entry in entries))
 
 
 def runs_vectors(cells):
@@ -486,7 +477,7 @@ def runs_vectors(cells):
             yield f'{name}, session {n}', session_body(rng, cells, file, 30)
     refused = {'P1 without its rule': P1[:-9], 'an empty file': b'', 'two skips': whole(nodes=[SKIP, SKIP]), 'a third level': whole(nodes=THIRD)}
     for name, file in refused.items():
-        yield f'{name} at the start', bytes([0]) + len(file).to_bytes(2, 'little') + file + answer_of(None, number_of(cells, file))
+        yield f'{name} at the start', started(file, number_of(cells, file))
     for name, file, entries in itertools.chain(every_run(cells), every_run(cells, nested.plans), levels.plans(cells)):
         yield name, run_body(cells, file, entries)
     rng = random.Random(SEED_FEW)
@@ -524,54 +515,15 @@ def made_up(rng, cells, n, depth):
         for _ in range(rng.randrange(1, 8)):
             good = permitted(model)
             if good:
-                model.take(rng.choice(good))
+                model.answer(rng.choice(good))
         if model.record and permitted(model) and deepest(model.tree, model.record) >= depth - 1:
             break
-    entry, record = rng.choice(permitted(model)), model.record
-    flat_record = flat(record)
-
-    def job(kind, file=file, entries=flat_record, length=len(file), taken=len(record), at_file=None, at_record=None):
-        """the job's bytes, and one step: the entry"""
-        room, rest = bytearray(bytes(file).ljust(MOST_FILE, b'\0')), bytearray(bytes(entries).ljust(126, b'\0'))
-        if at_file is not None:
-            room[at_file] = rng.randrange(1, 256)
-        if at_record is not None:
-            rest[at_record] = rng.randrange(1, 256)
-        told = told_by_job(cells, bytes(room), length, bytes(rest), taken, entry)
-        if kind == 'as it is' and told is None or kind != 'as it is' and told is not None:
-            sys.exit(f'job {n}, {kind}: the model has {told}')
-        body = bytes([1]) + room + length.to_bytes(8, 'little') + rest + taken.to_bytes(8, 'little')
-        return f'job {n}, {kind}', body + step_of(entry, told) + step_of((entry[0], 0), None)
-
-    yield job('as it is')
-    for length in (0, len(file) - 1, MOST_FILE + 1, 2 ** 32 + len(file), 2 ** 64 - 1):
-        yield job(f'plan length {length}', length=length)
-    if len(file) < MOST_FILE:
-        yield job('plan length one more', length=len(file) + 1)
-        yield job('a byte past the plan', at_file=len(file))
-        yield job('the last byte past the plan', at_file=MOST_FILE - 1)
-    for taken in (len(record) - 1, len(record) + 1, 63, 64, 2 ** 63 + len(record), 2 ** 64 - 1):
-        yield job(f'{taken} entries', taken=taken)
-    yield job('a byte past the record', at_record=len(flat_record))
-    yield job('the last byte past the record', at_record=125)
-    yield job('a plan with a type 4', file=file[:4] + b'\x04' + file[5:])
-    yield job('a plan without its rule', file=file[:-1] + b'\x80' if file[-5:-1] == bytes([1, 0, 4, 0]) else file[:-1] + b'\xff')
-    yield job('an entry twice', entries=flat_record + flat_record[:2], taken=len(record) + 1)
-    yield job('an outcome 0', entries=flat_record[:-1] + b'\0')
-    yield job('an outcome 3', entries=flat_record[:-1] + b'\x03')
-    yield job('a record of the whole process', entries=bytes([model.count - 1 if model.count > 1 else 5]) + flat_record[1:])
-    yield job('a record of no node', entries=bytes([model.count]) + flat_record[1:])
-
-
-def told_by_job(cells, file, length, record, taken, entry):
-    """what is told to an entry by a value of the type Job, or None where it is refused: a job is real where a start and entries give it"""
-    if length > MOST_FILE or taken > 63 or any(file[length:]) or any(record[2 * taken:]) or number_of(cells, file[:length]):
-        return None
-    model = Model(cells, file[:length])
-    for k in range(taken):
-        if model.take((record[2 * k], record[2 * k + 1])) is None:
-            return None
-    return model.take(entry)
+    entry, job = rng.choice(permitted(model)), job_of(file, model.record)
+    for kind, made in itertools.chain([('as it is', job)], broken(rng, job, model.count)):
+        model = real_job(cells, made)
+        if (kind == 'as it is') != (model is not None):
+            sys.exit(f'job {n}, {kind}: the model has {model and model.told}')
+        yield f'job {n}, {kind}', made_up_job(made, [(entry, None, model.answer(entry) if model else 11), ((entry[0], 0), None, 11)])
 
 
 def data_of(vectors):
@@ -615,13 +567,15 @@ def write_programs(cells, write, of_course):
     write('crates/run/args', b'plan\n')
     write('crates/run/data/plan', SWALLOWED)
     write('crates/run/stdin', session_by_hand())
-    write('crates/run/stdout', session_of(cells, SWALLOWED, session_by_hand()).encode())
-    # of the examples for one number the last, which is a whole file
-    own = {f'refused-{number}': file for _, number, file in examples_of_table() if number not in (None, 0, 8)}
+    write('crates/run/stdout', session_of(Model(cells, SWALLOWED), session_by_hand()).encode())
+    own = {f'refused-{number}': file for number, file in example_of_number().items() if number != 8}
     own |= {'fourth-undo': whole([1] * 5, [(0, u) for u in range(1, 5)]), 'largest': LARGEST, 'too-long': LARGEST + b'\0'}
     own |= {'undone-together': UNDONE_TOGETHER, 'taken-in-turns': TAKEN_IN_TURNS, 'second-level': whole(nodes=NESTED)}
     for name, file in own.items():
         write(f'tests/files/{name}.plan', file)
+    write('crates/course/data/hall.windows', HALL)
+    for name, file in WINDOWS.items():
+        write(f'tests/files/{name}.windows', file)
     for name, words, reads, writes in stored_cases(cells, of_course, own):
         write(f'tests/stored/{name}/command', ''.join(word + '\n' for word in words).encode())
         if reads is not None:
@@ -634,32 +588,47 @@ def with_another_end(body):
     return body[:-1] + bytes([body[-1] ^ 1])
 
 
-def write_differences(write, runs):
-    """the stored case of `compare` whose vectors do not all agree, and whose data files are not all whole: a last vector is missing, a byte is left over"""
+def with_another_number(body, number):
+    """a vector of the group `hours` of which the first answer to an entry that is this number is another; and how many answers stand before it"""
+    steps = steps_in(body)
+    at = next(n for n, step in enumerate(steps) if number_in(step) == number)
+    other = steps[at][:-10] + bytes([number ^ 3]) + steps[at][-9:]
+    return body[:len(body) - len(b''.join(steps))] + b''.join(steps[:at] + [other] + steps[at + 1:]), at + 1
+
+
+def write_differences(write, runs, hours):
+    """the stored case of `compare` whose vectors do not all agree, and whose data files are not all whole: a last vector is missing, a step is cut, a byte is left
+    over"""
     case = 'tests/stored/compare-differs/'
     p2 = dict(plans_of_document())['P2']
     write(case + 'program', b'compare\n')
     write(case + 'data/files', data_of([('P1', bytes([0]) + P1), ('a wrong number', bytes([7]) + P1), ('no file', bytes([1])), ('another', bytes([2]) + P1)]))
     session, job = runs[0][1], next(body for name, body in runs if name.endswith('as it is'))
-    answers = 1 + (len(session) - 13 - int.from_bytes(session[1:3], 'little')) // 12
+    answers = answers_in(session)
     some = [runs[0], ('another end', with_another_end(session)), ('of a job', with_another_end(job))]
     write(case + 'data/runs', (len(some) + 1).to_bytes(4, 'little') + data_of(some)[4:])
+    timed = next((name, body) for name, body in hours if name == 'two refusals at once')
+    another, before = with_another_number(timed[1], 21)
+    write(case + 'data/hours', data_of([timed, ('22 for 21', another), ('22 for 21, again', another), ('a cut step', timed[1][:-1]), ('not met', timed[1])]))
     write(case + 'data/verdicts', data_of([('P2', bytes(4 + 1 + RECORD) + p2)]) + bytes(1))
     write(case + 'stdout', b'files: vector 2 (a wrong number): expected 7, found 0\nfiles: 4 vectors, 2 agree\n'
           + f'runs: vector 2 (another end): expected {answers}, found {answers - 1}\n'.encode() +
           b'runs: 3 vectors, 1 agree\nruns: the data file is damaged after these\n'
+          + f'hours: vector 2 (22 for 21): expected {answers_in(timed[1])}, found {before}\n'.encode() +
+          b'hours: 3 vectors, 1 agree\nhours: the data file is damaged after these\n'
           b'verdicts: vector 1 (P2): expected 0, found 65538\nverdicts: 1 vectors, 0 agree\nverdicts: the data file is damaged after these\n')
 
 
-def write_other_records(write, runs, verdicts):
+def write_other_records(write, runs, hours, verdicts):
     """the stored case of `compare` whose numbers of verdicts are right, and whose record areas are not"""
     case = 'tests/stored/compare-other-records/'
     vectors, lines = other_records(verdicts)
     write(case + 'program', b'compare\n')
     write(case + 'data/files', data_of([('P1', bytes([0]) + P1)]))
     write(case + 'data/runs', data_of(runs[:1]))
+    write(case + 'data/hours', data_of(hours[:1]))
     write(case + 'data/verdicts', data_of(vectors))
-    write(case + 'stdout', ('files: 1 vectors, 1 agree\nruns: 1 vectors, 1 agree\n' + lines).encode())
+    write(case + 'stdout', ('files: 1 vectors, 1 agree\nruns: 1 vectors, 1 agree\nhours: 1 vectors, 1 agree\n' + lines).encode())
 
 
 def write_course(cells, write):
@@ -670,6 +639,19 @@ def write_course(cells, write):
     for name, file in plans.items():
         write(case + 'data/' + name, file)
     write(case + 'stdout', ''.join(f'{name}\n{verdict_lines(cells, file)}' for name, file in plans.items()).encode())
+
+
+def told_of(vectors):
+    """how many sessions a group has, how many entries of theirs get each number, and how many jobs, of which how many are real"""
+    kinds = [[body for _, body in vectors if body[0] == kind] for kind in (SESSION, TIMED_SESSION, MADE_UP_JOB)]
+    sessions = kinds[0] + kinds[1]
+    starts = collections.Counter(body[start_of(body)] for body in sessions)
+    steps = collections.Counter(number_in(step) for body in sessions for step in steps_in(body))
+    # a real job takes one of the entries that are offered
+    real = sum(any(number_in(step) == 0 for step in steps_in(body)) for body in kinds[2])
+    listed = lambda counts: ', '.join(f'{number}: {counts[number]}' for number in sorted(counts))
+    return (f'{len(vectors)} vectors, {len(data_of(vectors))} bytes; {len(kinds[0])} sessions untimed, {len(kinds[1])} timed, starts by number {listed(starts)}; '
+            f'entries by number {listed(steps)}; {len(kinds[2])} jobs, {real} of them real')
 
 
 def main():
@@ -724,8 +706,10 @@ def main():
 
     files = data_of([(name, bytes([number]) + file) for name, number, file in vectors])
     runs = list(runs_vectors(cells))
+    hours = list(hours_vectors(cells, example_of_number()))
     write('crates/compare/data/files', files)
     write('crates/compare/data/runs', data_of(runs))
+    write('crates/compare/data/hours', data_of(hours))
     judged = list(plans_of_document()) + [('swallowed', SWALLOWED), ('mended', MENDED)]
     withdrawn, retried = ('withdrawn', WITHDRAWN), ('retried', RETRIED)
     with_nested = [(name, file) for name, file, _ in plans_of_change()] + [('restored', RESTORED)]
@@ -733,21 +717,18 @@ def main():
                             ((name, file) for name, file, _ in levels.plans(cells)))
     verdicts = list(verdict_vectors(cells, judged + [withdrawn, retried] + with_nested, edges))
     write('crates/compare/data/verdicts', data_of(verdicts))
-    counts = ''.join(f'{group}: {n} vectors, {n} agree\n' for group, n in (('files', len(vectors)), ('runs', len(runs)), ('verdicts', len(verdicts))))
-    write('crates/compare/stdout', counts.encode())
-    write_differences(write, runs)
-    write_other_records(write, runs, verdicts)
+    groups = {'files': vectors, 'runs': runs, 'hours': hours, 'verdicts': verdicts}
+    write('crates/compare/stdout', ''.join(f'{group}: {len(of)} vectors, {len(of)} agree\n' for group, of in groups.items()).encode())
+    write_differences(write, runs, hours)
+    write_other_records(write, runs, hours, verdicts)
     write_course(cells, write)
     # last, so that the lines of the others keep their numbers, which docs/GUIDE.md has
     course = judged + [('broken', whole([3], (), THIRD)), withdrawn, retried] + with_nested
     write_programs(cells, write, {name.lower(): file for name, file in course})
     counts = {number: sum(n == number for _, n, _ in vectors) for number in range(10)}
     print(f'files: {len(vectors)} vectors, {len(files)} bytes; of each number:', ', '.join(f'{k}: {v}' for k, v in counts.items()))
-    steps = [body[at:at + 12] for _, body in runs if body[0] == 0 for at in range(13 + int.from_bytes(body[1:3], 'little'), len(body), 12)]
-    taken = sum(step[2] == 0 for step in steps)
-    jobs = sum(body[0] == 1 for _, body in runs)
-    real = MADE_UP + NESTED_MADE_UP
-    print(f'runs: {len(runs) - jobs} sessions, {len(steps)} entries offered, {taken} of them taken; {jobs} jobs, {real} of them real')
+    for group, of in (('runs', runs), ('hours', hours)):
+        print(f'{group}: {told_of(of)}')
     answers = [int.from_bytes(body[:4], 'little') // 65536 for _, body in verdicts]
     print(f'verdicts: {answers.count(0)} consistent, {answers.count(1)} violated, {answers.count(2)} refused')
 

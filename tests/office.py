@@ -1,9 +1,10 @@
-"""The office's own story, as five plans: a sweep is measured, stored, a reverberation time computed from it, and the figure filed.
+"""The office's own story, as five plans and a window file: a sweep is measured, stored, a reverberation time computed from it, and the figure filed.
 
 What make_vectors.py writes beside P1 to P8. Actions: 0 sweep, 1 store, 2 reverberation time, 3 file; in WITHDRAWN 4 withdraw by the server, 5 withdraw by
 hand; and in RESTORED 4 delete the recording, 5 tell the archive, 6 restore the recording.
 """
 from plans import SKIP, whole
+from windows import window_file
 
 SWEEP, STORE, TIME, FILE, SERVER, HAND = range(6)
 
@@ -44,3 +45,7 @@ WITHDRAWAL = [action(DELETE), action(RESTORE), (6, 2, 3), action(TELL), (3, 4, 5
 RESTORED = whole([3, 3, 3, 1, 1, 3, 1], [(DELETE, RESTORE)],
                  [action(SWEEP), action(STORE)] + WITHDRAWAL + [(6, 1, 6), (3, 0, 7), action(TIME), (3, 8, 9), action(FILE), (3, 10, 11)],
                  [FILE, DELETE, 0x82, STORE, 0x80, 0x82])
+
+# The hours of the hall, with minute 0 on Monday at 00:00: the sweep from Monday 08:00 to Friday 18:00, the store on Tuesday from 08:00 to 18:00. The time and the filing
+# may come at any minute.
+HALL = window_file([(SWEEP, 480, 6840), (STORE, 1920, 2520)])

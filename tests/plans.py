@@ -62,8 +62,8 @@ def with_switches(module):
 
 def model_in(folder):
     """the model's module cells.py, which has all of oracle.py's names too, with after.py's reader of files: several undos of an action, and undos two deep;
-    with both sides of a parallel beginning; with after.py's sets of a tree, its search for the plainest run of a tree that leaves a set, and its codes of both sides of
-    a node as one"""
+    with both sides of a parallel beginning; with after.py's sets of a tree, its search for the plainest run of a tree that leaves a set, its codes of both sides of
+    a node as one, and its timed jobs"""
     sys.path.insert(0, folder)
     oracle, cells, after = (importlib.import_module(name) for name in ('oracle', 'cells', 'after'))
     with_switches(oracle)
@@ -82,7 +82,7 @@ def model_in(folder):
     # in both, since what oracle.py defines reads files and finds sets by oracle.py's names
     oracle.parse = cells.parse = after.parse2
     oracle.plan_sets = cells.plan_sets = plan_sets
-    cells.plainest, cells.join = after.lazy2, after.join
+    cells.plainest, cells.join, cells.timed = after.lazy2, after.join, after.timed
     return cells
 
 

@@ -4,9 +4,11 @@ What make_vectors.py writes to tests/stored and tests/files.
 """
 import sys
 
+from office import HALL
 from plans import number_of
-from sessions import session_of
+from sessions import Model, Timed, session_of, start_number
 from shown import shown_run
+from windows import window, window_file
 
 FORMS = {'sequence': 'seq', 'parallel': 'par', 'choice': 'choice', 'compensation': 'comp', 'handler': 'handler'}
 
@@ -25,9 +27,12 @@ def inspect_lines(cells, file):
     return f'refused {number}\n' if number else 'accepted\n'
 
 
-def run_lines(cells, file, text):
-    number = number_of(cells, file)
-    return f'refused {number}\n' if number else session_of(cells, file, text)
+def run_lines(cells, file, text, windows=None):
+    """what `run` writes, with a window file where there is one"""
+    number = number_of(cells, file) if windows is None else start_number(cells, file, windows)
+    if number:
+        return f'refused {number}\n'
+    return session_of(Model(cells, file) if windows is None else Timed(cells, file, windows), text)
 
 
 def chart_lines(cells):
@@ -75,6 +80,8 @@ SESSIONS = {
                    b'0 18446744073709551617\nzero one\n\0\n0\0 1\n\xff\n\xc2\xa00 1\n' + b'0 1' * 2000 + b'\n' + b'0' * 5000 + b' 1\n0 1', 'open'),
     # no line at all
     'no-input': ('p1', b'', 'open'),
+    # entries with a minute, where there is no window file
+    'three-numbers': ('p1', b'0 1 0\n0 1 600\n0 1\n3 1 600\n3 1 \n3 1\n', 'may end succeeded'),
     # a recording is withdrawn by the server, and then by hand as well
     'withdrawn-twice': ('withdrawn', b'0 1\n1 1\n9 2\n2 1\n5 1\n', 'may end failed'),
     # an undo has succeeded, and its own undo is dropped
@@ -90,10 +97,43 @@ SESSIONS = {
     # as many entries as a run can have
     'largest': ('largest', b''.join(b'%d 1\n' % n for n in [0] + list(range(1, 63, 2))), 'may end succeeded'),
 }
+# Window files beside the office's: one without a window, one whose window ends before it begins, and one longer than any, of which ten windows are sound.
+WINDOWS = {'none': b'', 'refused-23': window(0, 700, 600), 'too-long': window_file((a % 10, 480, 1020) for a in range(12))}
+
+# Sessions by hand with a window file: the plan, the window file, the lines, and how the last that is told ends.
+TIMED_SESSIONS = {
+    # the sweep may not come before eight, and comes on Monday at two; the store may not come at night, nor at a minute before the sweep, which is 21 and not 22; it fails
+    # on Tuesday at eight, may not come again from six in the evening on, and does on the next Tuesday; the time comes at the same minute, the filing late on a Sunday
+    'hours': ('mended', 'hall', b'0 1 479\n0 1 840\n1 1 1380\n1 1 839\n3 1 1920\n1 2 1920\n2 1 2520\n2 1 1919\n2 1 12000\n5 1 12000\n7 1 11999\n7 1 20159\n',
+              'may end succeeded'),
+    # entries that may not come, at minutes that could be refused as well: 11 before 21 and 22
+    'hours-two-refusals': ('p1', 'hall', b'0 1 0\n0 1 600\n0 1 599\n0 1 0\n0 1 9000\n3 1 0\n3 1 599\n3 1 600\n3 1 700\n', 'may end succeeded'),
+    # any minute, but none earlier; equal ones
+    'hours-no-window': ('p1', 'none', b'0 1 9\n3 1 8\n3 2 9\n1 1 9\n', 'may end failed'),
+    # lines of two numbers and of four, and what is nearly an entry
+    'hours-no-entries': ('mended', 'hall', b'0 1\n0 1 840 1\n0 1  840\n0  1 840\n 0 1 840\n0 1 840 \n0 1 +840\n0 1 -840\n0 1 0840\n0 1 00\n0 1 4294967296\n'
+                         b'0 1 18446744073709552456\n0 1 10000000000\n0 1 ' + b'9' * 5000 +
+                         b'\n0 256 840\n256 1 840\n0 01 840\n0 1 840\r\n0\t1\t840\n0 1 \n\n0 1 840\n1 1\n1 1 1920\n', 'open'),
+    # a last line without a newline
+    'hours-no-newline': ('mended', 'hall', b'0 1 840\n1 1 1920', 'open'),
+    # the largest minute, on a Monday before eight, and one more, which is none; what has no window may come at it, and once more
+    'hours-largest-minute': ('mended', 'hall', b'0 1 4294967296\n0 1 4294967295\n0 1 4294967040\n0 1 840\n1 1 4294967295\n1 1 4294958880\n5 1 4294967295\n'
+                             b'7 1 4294967294\n7 1 4294967295\n', 'may end succeeded'),
+    # no line at all
+    'hours-no-input': ('mended', 'hall', b'', 'open'),
+}
+# starts with a window file that are refused: the plan, the window file, the number
+TIMED_REFUSED = {'hours-refused-23': ('mended', 'refused-23', 23), 'hours-too-long': ('largest', 'too-long', 23), 'hours-too-large': ('p8', 'hall', 23),
+                 'hours-plan-first': ('refused-4', 'refused-23', 4), 'hours-plan-first-9': ('refused-9', 'too-long', 9), 'hours-plan-alone': ('refused-6', 'hall', 6)}
 # of p3 and undone-together a program that lets a side never begin has a set that breaks the rule; of retried and taken-in-turns there are runs that are not
 # the plainest: more of it fails, or one side of a parallel is done before the other
 CONSISTENT = ('p1', 'p3', 'mended', 'undone-together', 'q3')
 VIOLATED = ('p2', 'p7', 'swallowed', 'withdrawn', 'largest', 'retried', 'taken-in-turns', 'restored', 'second-level')
+
+
+def last_told(lines):
+    """whether the run may end, as it was told last"""
+    return [line for line in lines.splitlines() if line.startswith(('open', 'may end'))][-1]
 
 
 def stored_cases(cells, of_course, own):
@@ -119,7 +159,18 @@ def stored_cases(cells, of_course, own):
         yield f'inspect-accepted-{name}', ['inspect', path(name)], None, inspect_lines(cells, files[name]).encode()
     for case, (name, text, end) in SESSIONS.items():
         lines = run_lines(cells, files[name], text)
-        if [line for line in lines.splitlines() if line.startswith(('open', 'may end'))][-1] != end:
+        if last_told(lines) != end:
             sys.exit(f'session {case}: the model does not end with {end}')
         yield f'run-{case}', ['run', path(name)], text, lines.encode()
+    windows = WINDOWS | {'hall': HALL}
+    window_path = lambda name: f'{"tests/files" if name in WINDOWS else "plans"}/{name}.windows'
+    for case, (name, hours, text, end) in TIMED_SESSIONS.items():
+        lines = run_lines(cells, files[name], text, windows[hours])
+        if last_told(lines) != end:
+            sys.exit(f'session {case}: the model does not end with {end}')
+        yield f'run-{case}', ['run', path(name), window_path(hours)], text, lines.encode()
+    for case, (name, hours, number) in TIMED_REFUSED.items():
+        if start_number(cells, files[name], windows[hours]) != number:
+            sys.exit(f'{case}: the model does not say {number}')
+        yield f'run-{case}', ['run', path(name), window_path(hours)], b'0 1 840\n', run_lines(cells, files[name], b'', windows[hours]).encode()
     yield 'chart', ['chart'], None, chart_lines(cells).encode()

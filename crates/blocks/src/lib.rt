@@ -1,7 +1,7 @@
 // Blocks and byte areas: the heading of a block at a cursor, whether its body is there, and writing a part of a lent area.
 // Nothing here knows what a plan is.
 ghost use mathlib.Core.Path.{_≡_};
-ghost use Prim.Native.Nat.{_+_, _≤_};
+ghost use Prim.Native.Nat.{_+_, _≤_, _<_};
 ghost use lib.Dec.{leb};
 ghost use lib.ListN.{length, replicate};
 ghost use Rattle.blocks.specs.Block.{le16, headingAt, bodyFits};
@@ -26,9 +26,9 @@ pub fn wide(x: u8) -> usize
 }
 
 // The little-endian number of the two bytes at `at`.
-fn number_at(s: &[u8], at: usize) -> usize
+pub fn number_at(s: &[u8], at: usize) -> usize
     requires { ⌜ at + 2 ≤ length (now s) ⌝ }
-    ensures { λ r. ⌜ r ≡ le16 (now (s .entry)) at ⌝ }
+    ensures { λ r. ⌜ (r ≡ le16 (now (s .entry)) at) × (r < 65536) ⌝ }
 {
     let low = s[at] as usize;
     let high = s[at + 1] as usize;

@@ -31,5 +31,6 @@ fn run(group: Group, name: &[u8]) {
 fn main() {
     run(Group::Files, b"files");
     run(Group::Runs, b"runs");
+    run(Group::Hours, b"hours");
     run(Group::Verdicts, b"verdicts");
 }

@@ -2,7 +2,7 @@
 ghost use mathlib.Core.Path.{_≡_};
 ghost use Rattle.text.specs.Text.{empty, appended, textOf};
 ghost use Rattle.comparison.specs.Data.{nameAt};
-ghost use Rattle.comparison.specs.Lines.{titleOf, differenceLine, countsLine, damageLine, differenceLines, damageLines, linesFor, comparisonLines};
+ghost use Rattle.comparison.specs.Lines.{titleOf, differenceLine, countsLine, damageLine, differenceLines, linesFor, comparisonLines};
 use crate::Comparison;
 use crate::Difference;
 use text::Text;
@@ -14,6 +14,7 @@ fn put_title(t: Text, group: Group) -> Text
     match group {
         Group::Files => text::put(t, b"files"),
         Group::Runs => text::put(t, b"runs"),
+        Group::Hours => text::put(t, b"hours"),
         Group::Verdicts => text::put(t, b"verdicts"),
     }
 }

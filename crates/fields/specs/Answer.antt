@@ -1,5 +1,5 @@
--- A runner's answer as the ten bytes that a vector of the group `runs` has for it: a number, the leaves that may come in eight bytes, and the end.
--- A refusal has its own number and no leaves; what is told has the number 0.
+-- A runner's answer as the ten bytes that a vector of the groups `runs` and `hours` has for it: a number, the leaves that may come in eight bytes,
+-- and the end. A refusal has its own number and no leaves; what is told has the number 0.
 use mathlib.Core.Bool.{Bool, false, cond}
 use mathlib.Core.List.{List}
 use Prim.Native.Nat.{ℕ, _+_}

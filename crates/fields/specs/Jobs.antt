@@ -1,5 +1,5 @@
--- When two jobs are the same, and the job that an answer leaves: as it was, and where the entry was taken with that entry more.
-use mathlib.Core.Bool.{Bool, true, false, cond}
+-- When two jobs are the same, and the job that an answer leaves: as it was, and where the entry was taken with that entry more and its minute.
+use mathlib.Core.Bool.{Bool, true, false, cond, _&&_, Bool·beq}
 use mathlib.Core.List.{List}
 use mathlib.Core.Logic.{_↔_}
 use mathlib.Core.Path.{_≡_}
@@ -15,22 +15,38 @@ use Rattle.job.specs.declared.Job.{Job}
 unfoldable pub sameBytes : List ℕ → List ℕ → Bool
 sameBytes a b = cond (eqb (length a) (length b)) (every (length a) (λ i. eqb (getD a i 0) (getD b i 0))) false
 
+-- two areas are in use to the same length and have the same bytes
+unfoldable pub sameArea : List ℕ → ℕ → List ℕ → ℕ → Bool
+sameArea a m b n = eqb m n && sameBytes a b
+
 unfoldable pub sameJob : Job → Job → Bool
 sameJob a b =
-    cond (eqb (a .«file_len») (b .«file_len»))
-    (cond (eqb (a .taken) (b .taken))
-    (cond (sameBytes (a .file) (b .file)) (sameBytes (a .entries) (b .entries)) false)
-    false)
-    false
+    sameArea (a .file) (a .«file_len») (b .file) (b .«file_len»)
+    && (sameArea (a .entries) (a .taken) (b .entries) (b .taken)
+    && (sameArea (a .windows) (a .«windows_len») (b .windows) (b .«windows_len»)
+    && (Bool·beq (a .timed) (b .timed) && eqb (a .minute) (b .minute))))
 
 -- the test tells exactly the jobs that are equal
 pub record TellsJobs : Type 0 where
   pub tells : (a b : Job) → (sameJob a b ≡ true) ↔ (a ≡ b)
 
--- the job with one entry more, where there is room for it
-abbrev pub grown : Job → Entry → Job
-grown j e = cond (ltb (j .taken) 63) (withEntry j e) j
+-- the same job but for its minute
+abbrev pub withMinute : Job → ℕ → Job
+withMinute j m = record {
+  file = j .file;
+  «file_len» = j .«file_len»;
+  entries = j .entries;
+  taken = j .taken;
+  timed = j .timed;
+  windows = j .windows;
+  «windows_len» = j .«windows_len»;
+  minute = m;
+}
+
+-- the job with one entry more and this minute, where there is room for the entry
+abbrev pub grown : Job → Entry → ℕ → Job
+grown j e m = cond (ltb (j .taken) 63) (withMinute (withEntry j e) m) j
 
 -- the job that an answer with this number leaves: 0 is no refusal
-unfoldable pub leftBy : ℕ → Job → Entry → Job
-leftBy number j e = cond (eqb number 0) (grown j e) j
+unfoldable pub leftBy : ℕ → Job → Entry → ℕ → Job
+leftBy number j e m = cond (eqb number 0) (grown j e m) j

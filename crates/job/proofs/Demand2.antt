@@ -1,29 +1,25 @@
 -- Demand 2, put together from its parts.
-use mathlib.Core.Path.{_≡_, refl, sym, ap, subst, _∙_}
+use mathlib.Core.Path.{_≡_, refl, ap, _∙_}
 use mathlib.Core.List.{List, []}
 use Prim.Native.Nat.{ℕ}
 use native.Mathlib.Omega.{arith}
 use Rattle.plan.specs.Reading.{readOf}
 use Rattle.plan.specs.declared.Layout.{Layout}
 use Rattle.plan.specs.declared.Reading.the-variants.{Accepted}
-use Rattle.job.specs.Job.{noJob, startOn, startOf, planOf}
+use Rattle.job.specs.Job.{noJob, startOn, startOf}
 use Rattle.job.specs.Offer.{Real, offer, started}
 use Rattle.state.specs.State.{entriesFrom}
 use Rattle.job.specs.Demand2.{Starts, Demand2}
-use Rattle.job.specs.declared.Job.{Job}
 use Rattle.job.proofs.Standing.{refuses-so, tells, started-fine, offered-fine}
 use Rattle.job.proofs.Honest.{honest}
-use Rattle.job.proofs.Real.{false-refused}
+use Rattle.job.proofs.Real.{real-good, false-refused}
 
 -- no file is empty
 not-empty : (l : Layout) → readOf [] ≡ Accepted l → ⊥
 not-empty l h = let z : _≡_ {A = ℕ} 0 1 = cc in omega arith
 
 no-job-real : Real noJob → ⊥
-no-job-real r =
-    let f = offered-fine (r .file) (r .layout) (r .accepted) (r .entries) (started (r .file) (r .layout)) (started-fine (r .file) (r .layout) (r .accepted)) in
-    let plan : planOf noJob ≡ r .file = subst (λ (j : Job). planOf j ≡ r .file) (sym (r .is)) (f .good .plan) in
-    not-empty (r .layout) (ap readOf plan ∙ r .accepted)
+no-job-real r = not-empty (r .layout) (ap readOf (real-good noJob r .plan) ∙ r .accepted)
 
 starts-so : (s : List ℕ) (l : Layout) → readOf s ≡ Accepted l → Starts (started s l) (startOf s)
 unfolding entriesFrom

@@ -42,7 +42,7 @@ module _ (r : List ℕ) (k leaf outcome : ℕ) (room : 2 * k + 1 < length r) whe
   long-enough : 2 * k + 1 < length (set r (2 * k) leaf)
   long-enough = simp length-set room
 
-  here : entryAt longer k ≡ record { leaf = leaf; outcome = outcome }
+  pub here : entryAt longer k ≡ record { leaf = leaf; outcome = outcome }
   here =
       let a : getD longer (2 * k) 0 ≡ leaf =
       getD-set-other (set r (2 * k) leaf) (2 * k + 1) (2 * k) outcome 0 (λ e. omega arith) ∙ getD-set-same r (2 * k) leaf 0 (omega arith) in

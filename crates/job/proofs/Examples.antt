@@ -1,12 +1,14 @@
 -- What the definitions of the promise of an end say, on two plans. Unused leaves are counted on the course's plan (plans/swallowed.plan), which
 -- has nine nodes and five leaves. The plan "skip, then throw" shows what they do not admit: no end is told before it is reached or reached with
--- no entry, no leaf is told that is not next, and no list is taken whole that has an entry to be refused.
+-- no entry, no leaf is told that is not next, and no list is taken whole that has an entry to be refused. Then timed jobs of it.
 use mathlib.Core.Path.{_≡_, refl, ap, _∙_}
 use mathlib.Core.List.{List, [], _∷_}
-use Prim.Native.Nat.{ℕ, _≤_}
+use Prim.Native.Nat.{ℕ, _+_, _^_, _≤_}
 use native.Mathlib.Omega.{arith}
 use lib.ListN.{length}
 use Rattle.blocks.specs.Bounded.{every, total}
+use Rattle.hours.specs.Hours.{leafWindow}
+use Rattle.hours.specs.Kept.{soonest}
 use Rattle.process.specs.Process.{ok, fail, entry}
 use Rattle.nodes.specs.Fold.{foldFrom}
 use Rattle.bodies.specs.Rule.{ruleFrom}
@@ -16,7 +18,9 @@ use Rattle.plan.specs.declared.Reading.the-variants.{Accepted}
 use Rattle.runs.proofs.Leaves.{holds-none, holds-only}
 use Rattle.state.specs.State.{toldBy, leafPermits, mayCome, replay, entriesFrom}
 use Rattle.state.specs.declared.Entry.{Entry}
-use Rattle.job.specs.Job.{takeOf}
+use Rattle.job.specs.Job.{mostMinute, takeOf}
+use Rattle.job.specs.Timed.{freshTimed, startTimedOf, takeTimedOf}
+use Rattle.job.specs.declared.Job.{Job}
 use Rattle.job.specs.Numbers.{numberOf, endNumber}
 use Rattle.job.specs.Offer.{Standing, offer, TakesAll, no-more, one-more, started}
 use Rattle.job.specs.PromisedEnd.{unusedLeaves, EndsHere, TellsLeaf, ReachesEnd}
@@ -104,3 +108,31 @@ over-next = refl
 
 nothing-next : TellsLeaf (bytesOf file (layout .nodes)) over → ⊥
 nothing-next t = holds-none (t .leaf) (rw over-next at (t .told))
+
+-- A minute has 32 bits.
+largest-minute : mostMinute + 1 ≡ 2 ^ 32
+largest-minute = refl
+
+-- the plan file's number comes before 23, and 23 is for what is no window file for its one action
+timed-starts : (numberOf (startTimedOf [] (0 ∷ []) .answer) ≡ 1) × (numberOf (startTimedOf file (0 ∷ []) .answer) ≡ 23)
+    × (numberOf (startTimedOf file (1 ∷ 0 ∷ 0 ∷ 1 ∷ 0 ∷ []) .answer) ≡ 23)
+    × (numberOf (startTimedOf file (0 ∷ 0 ∷ 0 ∷ 1 ∷ 0 ∷ []) .answer) ≡ 0)
+unfolding every total foldFrom ruleFrom
+timed-starts = (refl, refl, refl, refl)
+
+-- the fresh timed job takes no entry without a minute, and the untimed one none with one
+abbrev timed : Job
+timed = freshTimed file []
+
+skip-alone : (numberOf (takeOf timed (record { leaf = 0; outcome = 1 }) .answer) ≡ 11) × (numberOf (takeTimedOf (fresh .job) (record { leaf = 0; outcome = 1 }) 0 .answer) ≡ 11)
+skip-alone = (refl, refl)
+
+-- the skip comes at minute 7: then the throw does not come at 6, nor the skip again, and does at 7
+abbrev at-seven : Job
+at-seven = takeTimedOf timed (record { leaf = 0; outcome = 1 }) 7 .job
+
+in-turn : (at-seven .minute ≡ 7) × (numberOf (takeTimedOf at-seven (record { leaf = 1; outcome = 2 }) 6 .answer) ≡ 21)
+    × (numberOf (takeTimedOf at-seven (record { leaf = 0; outcome = 1 }) 6 .answer) ≡ 11)
+    × (numberOf (takeTimedOf at-seven (record { leaf = 1; outcome = 2 }) 7 .answer) ≡ 0)
+unfolding every total foldFrom ruleFrom toldBy leafPermits mayCome replay entriesFrom leafWindow soonest
+in-turn = (refl, refl, refl, refl)

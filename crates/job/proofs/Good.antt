@@ -16,7 +16,7 @@ use Rattle.plan.specs.declared.Layout.{Layout}
 use Rattle.plan.specs.declared.Reading.the-variants.{Accepted}
 use Rattle.plan.proofs.Demand1.{demand1, runnable}
 use Rattle.state.specs.State.{toldBy, mayCome, freshTable, replay, entriesFrom, stateAfter}
-use Rattle.job.specs.Job.{saying, refusal, freshJob, planOf, tidy, withEntry, afterEntry, takeWith, takeOn, takeOf}
+use Rattle.job.specs.Job.{mostWindows, saying, refusal, freshJob, planOf, tidy, untimed, withEntry, afterEntry, takeWith, takeOn, takeOf}
 use Rattle.job.specs.Offer.{runEntry, recordOf, Sized}
 use Rattle.state.specs.declared.Entry.{Entry}
 use Rattle.job.specs.declared.Answer.the-variants as answer
@@ -58,6 +58,7 @@ module _ (s : List ℕ) (l : Layout) (acc : readOf s ≡ Accepted l) where
   pub record Good (j : Job) : Type 0 where
     pub plan : planOf j ≡ s
     pub sized : Sized j
+    pub plain : untimed j ≡ true
     pub neat : Tidy j
     pub table : List ℕ
     pub state : stateAfter types b (j .entries) (j .taken) ≡ record { ok = true; table = table }
@@ -78,7 +79,8 @@ module _ (s : List ℕ) (l : Layout) (acc : readOf s ≡ Accepted l) where
       let few = demand1 .most s l acc in
       record {
         plan = take-append-seam s (replicate (mostBytes - length s) 0);
-        sized = record { file = simp length-append (omega (arith, length-replicate {A = ℕ} (mostBytes - length s) 0)); entries = refl };
+        sized = record { file = simp length-append (omega (arith, length-replicate {A = ℕ} (mostBytes - length s) 0)); entries = refl; windows = refl; minute = omega arith };
+        plain = zeros-past (replicate mostWindows 0) 0 (λ i h k. zeros-at mostWindows i);
         neat = record { file-fits = few; few = omega arith; file-zeros = padded-zeros s (mostBytes - length s); entries-zeros = zeros-past (replicate 126 0) (2 * 0) (λ i h k. zeros-at 126 i) };
         table = freshTable;
         state = refl;
@@ -88,7 +90,8 @@ module _ (s : List ℕ) (l : Layout) (acc : readOf s ≡ Accepted l) where
     -- an entry goes by whether it may come
     taking : takeOf j e ≡ cond (mayCome types b (g .table) (e .leaf) (e .outcome)) (afterEntry b (g .table) j e) (refusal 11 j)
     taking =
-        ap (λ (t : Bool). cond t (takeOn j e (readOf (planOf j))) (refusal 11 j)) (tidy-holds j (g .neat))
+        ap (λ (t : Bool). cond t (cond (tidy j) (takeOn j e (readOf (planOf j))) (refusal 11 j)) (refusal 11 j)) (g .plain)
+        ∙ ap (λ (t : Bool). cond t (takeOn j e (readOf (planOf j))) (refusal 11 j)) (tidy-holds j (g .neat))
         ∙ ap (takeOn j e) (ap readOf (g .plan) ∙ acc)
         ∙ ap (λ (p : List ℕ). takeWith (bytesOf p (l .types)) (bytesOf p (l .nodes)) j e) (g .plan)
         ∙ ap (λ (x : Replayed). cond (x .ok) (cond (mayCome types b (x .table) (e .leaf) (e .outcome)) (afterEntry b (x .table) j e) (refusal 11 j)) (refusal 11 j)) (g .state)
@@ -124,7 +127,8 @@ module _ (s : List ℕ) (l : Layout) (acc : readOf s ≡ Accepted l) where
       unfoldable pub next-good : Good (withEntry j e)
       next-good = record {
         plan = g .plan;
-        sized = record { file = g .sized .file; entries = simp length-set (g .sized .entries) };
+        sized = record { file = g .sized .file; entries = simp length-set (g .sized .entries); windows = g .sized .windows; minute = g .sized .minute };
+        plain = g .plain;
         neat = record { file-fits = g .neat .file-fits; few = still-few; file-zeros = g .neat .file-zeros; entries-zeros = zeros-more (j .entries) (j .taken) (e .leaf) (e .outcome) room (g .neat .entries-zeros) };
         table = after;
         state = ap (replay types b freshTable) (entries-more (j .entries) (j .taken) (e .leaf) (e .outcome) room) ∙ replay-more types b runs-on (entriesFrom (j .entries) 0 (j .taken)) freshTable (g .table) e (g .state) h;

@@ -15,4 +15,8 @@ pub mod Real
 pub mod Demand2
 pub mod TakesAll
 pub mod PromisedEnd
+pub mod Hourly
+pub mod Hours
+pub mod RealTimed
+pub mod TimedRunner
 pub mod Examples

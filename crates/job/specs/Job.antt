@@ -38,13 +38,34 @@ saying t = record { next = t .next; end = endOf (t .ended) }
 abbrev pub refusal : ℕ → Job → Taken
 refusal n j = record { answer = answer.Refused n; job = j }
 
+-- The bytes of a window file that names each of ten actions: the most that one can have.
+abbrev pub mostWindows : ℕ
+mostWindows = 5 * mostActions
+
+-- The largest minute of 32 bits.
+abbrev pub mostMinute : ℕ
+mostMinute = 4294967295
+
+-- The untimed job with this plan and record: the fields that say nothing are 0.
+abbrev pub untimedJob : List ℕ → ℕ → List ℕ → ℕ → Job
+untimedJob file len entries taken = record {
+  file = file;
+  «file_len» = len;
+  entries = entries;
+  taken = taken;
+  timed = false;
+  windows = replicate mostWindows 0;
+  «windows_len» = 0;
+  minute = 0;
+}
+
 -- What a start that is refused hands back: no plan, and no job that a start or an entry gives.
 abbrev pub noJob : Job
-noJob = record { file = replicate mostBytes 0; «file_len» = 0; entries = replicate 126 0; taken = 0 }
+noJob = untimedJob (replicate mostBytes 0) 0 (replicate 126 0) 0
 
 -- The fresh job of a plan file: its bytes, then zeros, and no entry.
 abbrev pub freshJob : List ℕ → Job
-freshJob s = record { file = s ++ replicate (mostBytes - length s) 0; «file_len» = length s; entries = replicate 126 0; taken = 0 }
+freshJob s = untimedJob (s ++ replicate (mostBytes - length s) 0) (length s) (replicate 126 0) 0
 
 abbrev pub startWith : List ℕ → Layout → Taken
 startWith s l = record { answer = answer.Told (saying (toldBy (bytesOf s (l .nodes)) freshTable)); job = freshJob s }
@@ -70,6 +91,11 @@ abbrev pub tidy : Job → Bool
 tidy j =
     cond (leb (j .«file_len») mostBytes) (cond (ltb (j .taken) 63) (cond (zerosFrom (j .file) (j .«file_len»)) (zerosFrom (j .entries) (2 * j .taken)) false) false) false
 
+-- The job is untimed: it has no window file and no minute.
+abbrev pub untimed : Job → Bool
+untimed j =
+    cond (j .timed) false (cond (eqb (j .«windows_len») 0) (cond (eqb (j .minute) 0) (zerosFrom (j .windows) 0) false) false)
+
 -- The job with one entry more.
 abbrev pub withEntry : Job → Entry → Job
 withEntry j e = record {
@@ -77,6 +103,10 @@ withEntry j e = record {
   «file_len» = j .«file_len»;
   entries = set (set (j .entries) (2 * j .taken) (e .leaf)) (2 * j .taken + 1) (e .outcome);
   taken = j .taken + 1;
+  timed = j .timed;
+  windows = j .windows;
+  «windows_len» = j .«windows_len»;
+  minute = j .minute;
 }
 
 -- An entry that may come: it is kept, and what the table tells with it is told.
@@ -96,9 +126,9 @@ abbrev pub takeOn : Job → Entry → Reading → Taken
 takeOn j e (reading.Accepted l) = takeWith (bytesOf (planOf j) (l .types)) (bytesOf (planOf j) (l .nodes)) j e
 takeOn j e (reading.Refused n) = refusal 11 j
 
--- An entry to a job.
+-- An entry without a minute to a job: a timed one counts as false.
 abbrev pub takeOf : Job → Entry → Taken
-takeOf j e = cond (tidy j) (takeOn j e (readOf (planOf j))) (refusal 11 j)
+takeOf j e = cond (untimed j) (cond (tidy j) (takeOn j e (readOf (planOf j))) (refusal 11 j)) (refusal 11 j)
 
 -- "the limits 10, 63 and 127"
 abbrev pub limits : Limits

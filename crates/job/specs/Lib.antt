@@ -1,5 +1,7 @@
 pub mod Job
+pub mod Timed
 pub mod Numbers
 pub mod Offer
 pub mod Demand2
 pub mod PromisedEnd
+pub mod TimedRunner

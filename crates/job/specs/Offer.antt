@@ -3,7 +3,7 @@
 use mathlib.Core.Path.{_≡_}
 use mathlib.Core.Bool.{cond}
 use mathlib.Core.List.{List, [], _∷_, map}
-use Prim.Native.Nat.{ℕ}
+use Prim.Native.Nat.{ℕ, _≤_}
 use lib.Dec.{eqb}
 use lib.ListN.{length}
 use Rattle.process.specs.Process.{Status, ok, fail, entry, Run}
@@ -13,7 +13,7 @@ use Rattle.plan.specs.Reading.{bytesOf, readOf}
 use Rattle.plan.specs.declared.Layout.{Layout}
 use Rattle.plan.specs.declared.Reading.the-variants.{Accepted}
 use Rattle.state.specs.State.{toldBy, freshTable, entriesFrom}
-use Rattle.job.specs.Job.{saying, freshJob, takeOf}
+use Rattle.job.specs.Job.{mostWindows, mostMinute, saying, freshJob, takeOf}
 use Rattle.job.specs.Numbers.{numberOf, endNumber}
 use Rattle.state.specs.declared.Entry.{Entry}
 use Rattle.job.specs.declared.Told.{Told}
@@ -76,7 +76,9 @@ pub record Real (j : Job) : Type 0 where
   pub entries : List Entry
   pub is : j ≡ offer (started file layout) entries .job
 
--- A value of the type Job has areas of these sizes.
+-- A value of the type Job has areas of these sizes, and a minute of 32 bits.
 pub record Sized (j : Job) : Type 0 where
   pub file : length (j .file) ≡ mostBytes
   pub entries : length (j .entries) ≡ 126
+  pub windows : length (j .windows) ≡ mostWindows
+  pub minute : j .minute ≤ mostMinute

@@ -10,7 +10,10 @@ ghost use lib.Dec.{ltb, eqb};
 ghost use lib.ListN.{length};
 ghost use Rattle.plan.specs.PlanFile.{mostBytes, Runnable};
 ghost use Rattle.plan.specs.Reading.{bytesOf, readOf};
-ghost use Rattle.job.specs.Job.{limits, endOf, saying, refusal, noJob, freshJob, startWith, startOf, zerosFrom, tidy, withEntry, afterEntry, takeWith, takeOn, takeOf, planOf};
+ghost use Rattle.job.specs.Job.{limits, endOf, saying, refusal, untimedJob, noJob, freshJob, startWith, startOf, zerosFrom, tidy, untimed, withEntry, afterEntry, takeWith, takeOn, takeOf, planOf};
+ghost use Rattle.job.specs.Timed.{startTimedOf, takeTimedOf};
+
+mod timed;
 
 pub enum Status {
     Succeeded,
@@ -34,12 +37,20 @@ pub enum Answer {
     Refused(u8),
 }
 
-// A job: the bytes of its plan file, and its record so far, two bytes an entry; the bytes past both are 0.
+// The bytes of a window file that names each of ten actions: the most that one can have.
+pub const MOST_WINDOWS: usize = 50;
+
+// A job: the bytes of its plan file, and its record so far, two bytes an entry; and where it is timed, those of its window file and the minute of
+// its last entry. The bytes past each are 0, and what says nothing is 0.
 pub struct Job {
     pub file: [u8; plan::MOST_BYTES],
     pub file_len: usize,
     pub entries: [u8; 126],
     pub taken: usize,
+    pub timed: bool,
+    pub windows: [u8; MOST_WINDOWS],
+    pub windows_len: usize,
+    pub minute: u32,
 }
 
 pub struct Taken {
@@ -117,6 +128,44 @@ fn is_tidy(j: Job) -> bool
     false
 }
 
+// Whether the job has no window file and no minute.
+fn is_untimed(j: Job) -> bool
+    ensures { λ r. ⌜ r ≡ untimed j ⌝ }
+{
+    if j.timed {
+        return false;
+    }
+    let windows = j.windows;
+    if j.windows_len == 0 {
+        if j.minute == 0 {
+            return zeros_from(&windows, 0);
+        }
+        return false;
+    }
+    false
+}
+
+// The untimed job with this plan and record.
+fn untimed_job(
+    file: [u8; plan::MOST_BYTES],
+    file_len: usize,
+    entries: [u8; 126],
+    taken: usize,
+) -> Job
+    ensures { λ r. ⌜ r ≡ untimedJob file «file_len» entries taken ⌝ }
+{
+    Job {
+        file,
+        file_len,
+        entries,
+        taken,
+        timed: false,
+        windows: [0u8; MOST_WINDOWS],
+        windows_len: 0,
+        minute: 0,
+    }
+}
+
 // The job with one entry more.
 fn with_entry(j: Job, e: Entry) -> Job
     requires { ⌜ j .taken < 63 ⌝ }
@@ -124,6 +173,7 @@ fn with_entry(j: Job, e: Entry) -> Job
 {
     let file = j.file;
     let taken = j.taken;
+    let windows = j.windows;
     let mut entries = j.entries;
     entries[2 * taken] = e.leaf;
     entries[2 * taken + 1] = e.outcome;
@@ -132,6 +182,10 @@ fn with_entry(j: Job, e: Entry) -> Job
         file_len: j.file_len,
         entries,
         taken: taken + 1,
+        timed: j.timed,
+        windows,
+        windows_len: j.windows_len,
+        minute: j.minute,
     }
 }
 
@@ -171,12 +225,7 @@ fn take_with(types: &[u8], nodes: &[u8], j: Job, e: Entry) -> Taken
 fn no_job() -> Job
     ensures { λ r. ⌜ r ≡ noJob ⌝ }
 {
-    Job {
-        file: [0u8; plan::MOST_BYTES],
-        file_len: 0,
-        entries: [0u8; 126],
-        taken: 0,
-    }
+    untimed_job([0u8; plan::MOST_BYTES], 0, [0u8; 126], 0)
 }
 
 // The fresh job of a plan file.
@@ -186,12 +235,7 @@ fn fresh_job(s: &[u8]) -> Job
 {
     let mut file = [0u8; plan::MOST_BYTES];
     blocks::copy(&mut file, 0, s);
-    Job {
-        file,
-        file_len: s.len(),
-        entries: [0u8; 126],
-        taken: 0,
-    }
+    untimed_job(file, s.len(), [0u8; 126], 0)
 }
 
 // The job that a start makes from a plan file with this layout.
@@ -262,15 +306,40 @@ impl Job {
         }
     }
 
-    // Takes an entry, or refuses it and hands the job back unchanged.
+    // Takes an entry, or refuses it and hands the job back unchanged. A timed job counts as false.
     pub fn take(self, e: Entry) -> Taken
         ensures { λ r. ⌜ r ≡ takeOf self e ⌝ }
     {
+        if !is_untimed(self) {
+            return refuse(11, self);
+        }
         if !is_tidy(self) {
             return refuse(11, self);
         }
         let file = self.file;
         let n = self.file_len;
         take_in(&file[..n], self, e)
+    }
+
+    // Starts a timed job from the bytes of a plan file and of a window file.
+    pub fn start_timed(file: &[u8], windows: &[u8]) -> Taken
+        ensures { λ r. ⌜ r ≡ startTimedOf (now (file .entry)) (now (windows .entry)) ⌝ }
+    {
+        match plan::read(file) {
+            Reading::Refused(n) => refuse(n, no_job()),
+            Reading::Accepted(l) => timed::start_with(file, windows, l),
+        }
+    }
+
+    // Takes an entry with its minute, or refuses it and hands the job back unchanged. An untimed job counts as false.
+    pub fn take_at(self, e: Entry, minute: u32) -> Taken
+        ensures { λ r. ⌜ r ≡ takeTimedOf self e minute ⌝ }
+    {
+        if !timed::is_tidy(self) {
+            return refuse(11, self);
+        }
+        let file = self.file;
+        let n = self.file_len;
+        timed::take_in(&file[..n], self, e, minute)
     }
 }

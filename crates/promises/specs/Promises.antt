@@ -1,6 +1,8 @@
--- The three demands and, beside them, document 02's promise of an end (N2). `promises` in proofs/ proves them, from what the crates below prove
--- of themselves.
+-- The three demands and, beside them, document 02's promise of an end (N2) and what it promises of window files and timed jobs (N9). The demands and
+-- the promise of an end speak of untimed jobs. `promises` in proofs/ proves them, from what the crates below prove of themselves.
+use Rattle.hours.specs.Windows.{ReadsWindows}
 use Rattle.job.specs.PromisedEnd.{PromisedEnd}
+use Rattle.job.specs.TimedRunner.{TimedRunner}
 use Rattle.promises.specs.Refused.{Demand1}
 use Rattle.promises.specs.Runner.{Demand2}
 use Rattle.promises.specs.Verdict.{Demand3}
@@ -10,3 +12,5 @@ pub record Promises : Type 0 where
   pub runner : Demand2
   pub verdict : Demand3
   pub an-end : PromisedEnd
+  pub windows : ReadsWindows
+  pub timed : TimedRunner

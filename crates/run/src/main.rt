@@ -1,18 +1,22 @@
-// Runs a job by hand: run PLAN, where PLAN is the path of a plan file. Entries come on standard input, a line each.
+// Runs a job by hand: run PLAN, where PLAN is the path of a plan file, or run PLAN WINDOWS, a timed job, where WINDOWS is the path of a window file.
+// Entries come on standard input, a line each.
 //
 // After the start and after each entry taken it writes a line `next` with the leaves that may come, ascending, each after a blank, and a line
 // `open`, `may end succeeded` or `may end failed`. An entry that is refused gets `refused` and its number, and the session goes on. A plan that is
-// refused gets `refused` and its number, and the program ends. Each line of input is answered as soon as it is there.
+// refused gets `refused` and its number, a window file `refused 23`, and the program ends. Each line of input is answered as soon as it is there.
 //
-// A line is an entry where it is leaf and outcome in decimal with one blank between them and nothing else: `0 2`. Each number is 0 to 255 in the
-// digits 0 to 9, with no sign and no zero before another digit. So a line that is an entry has at most seven bytes, but a line may have any length.
+// A line is an entry where it is leaf and outcome in decimal with one blank between them and nothing else: `0 2`. In a timed session it is leaf,
+// outcome and minute, with one blank between each two: `0 2 480`. Each number is written in the digits 0 to 9, with no sign and no zero before
+// another digit; leaf and outcome are 0 to 255, and a minute is 0 to 4294967295. A line may have any length.
 // A line that is no entry, an empty one too, gets `not an entry`, and the session goes on. A newline ends a line, and so does the end of the input
 // where bytes of a line have come before it.
 ghost use mathlib.Core.Bool.{true};
 ghost use mathlib.Core.Path.{_≡_};
+ghost use Rattle.io.specs.Counts.{Counts};
 ghost use Rattle.session.specs.Session.{heardAll};
 use job::Answer;
 use job::Job;
+use job::Taken;
 use libc::STDERR_FILENO;
 use libc::STDIN_FILENO;
 use libc::STDOUT_FILENO;
@@ -93,9 +97,8 @@ fn talk(session: Session) {
     }
 }
 
-// Starts the job, tells what the start tells, and goes on with the entries unless the plan is refused.
-fn start(file: &[u8]) {
-    let taken = Job::start(file);
+// Tells what a start tells, and goes on with the entries unless it is refused.
+fn begin(taken: Taken) {
     let answer = taken.answer;
     let job = taken.job;
     if !output::write(STDOUT_FILENO, answers::lines(answer)) {
@@ -106,6 +109,54 @@ fn start(file: &[u8]) {
         Answer::Told(_) => talk(session::next_line(job)),
         Answer::Refused(_) => (),
     }
+}
+
+fn ask_for_a_plan() {
+    io::write_all(
+        STDERR_FILENO,
+        b"run: the path of a plan file is due, and for a timed job the path of a window file after it\n",
+    );
+}
+
+// The length of the i-th argument, the path of a file, which is put into `path`; 0 where there is none, which is told.
+fn path_at(i: usize, path: &mut [u8]) -> usize
+    ensures { λ r. ⌜ Counts r (now (path .exit)) ⌝ }
+{
+    let n = os::arg(i, path);
+    if os::errno() != 0 {
+        os::fail(b"the path of a file");
+        return 0;
+    }
+    if n == 0 {
+        ask_for_a_plan();
+    }
+    n
+}
+
+// A window file that is longer than any is refused, and so are its first MOST_WINDOWS + 1 bytes: they are no whole number of windows.
+fn open_windows(file: &[u8], path: &[u8]) {
+    let mut windows = [0u8; job::MOST_WINDOWS + 1];
+    let got = input::fill_from(path, &mut windows);
+    if got.failed {
+        os::fail(path);
+        return;
+    }
+    let n = got.count;
+    begin(Job::start_timed(file, &windows[..n]));
+}
+
+// A job of the plan file: a timed one where a second argument is there.
+fn start(file: &[u8]) {
+    if os::arg_count() == 2 {
+        begin(Job::start(file));
+        return;
+    }
+    let mut path = io::buffer();
+    let n = path_at(2, &mut path);
+    if n == 0 {
+        return;
+    }
+    open_windows(file, &path[..n]);
 }
 
 // A file that is longer than the largest plan file is refused by the number of its first MOST_BYTES + 1 bytes.
@@ -120,26 +171,15 @@ fn open(path: &[u8]) {
     start(&file[..n]);
 }
 
-fn ask_for_a_plan() {
-    io::write_all(
-        STDERR_FILENO,
-        b"run: one argument is due, the path of a plan file\n",
-    );
-}
-
 fn main() {
-    if os::arg_count() != 2 {
+    let given = os::arg_count();
+    if given < 2 || given > 3 {
         ask_for_a_plan();
         return;
     }
     let mut path = io::buffer();
-    let n = os::arg(1, &mut path);
-    if os::errno() != 0 {
-        os::fail(b"the path of the plan file");
-        return;
-    }
+    let n = path_at(1, &mut path);
     if n == 0 {
-        ask_for_a_plan();
         return;
     }
     open(&path[..n]);

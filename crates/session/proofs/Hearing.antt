@@ -8,7 +8,7 @@ use lib.Dec.{ltb, eqb}
 use lib.ListN.{length, getD, drop, drop-of-length-le}
 use lib.Seq.{drop-cons}
 use Rattle.job.specs.declared.Job.{Job}
-use Rattle.session.specs.Line.{digitAfter, freshLine, lineAfter, lineOf, begunWith, begun, entryIn}
+use Rattle.session.specs.Line.{largest, digitAfter, freshLine, lineAfter, lineOf, begunWith, begun, entryIn}
 use Rattle.session.specs.Session.{nextLine, answeredTo, heardByte, heardAll, heardEnd, OneLine, AnswersLines}
 use Rattle.session.specs.declared.line.Number.{Number}
 use Rattle.session.specs.declared.line.Number.the-variants.{Unwritten, Is, Wrong}
@@ -31,31 +31,35 @@ heard-line j l [] one = refl
 heard-line j l (b ∷ bs) one = rw (one .0) (heard-line j (lineAfter l b) bs (one .1))
 
 -- a line has begun once a byte of it has come
-begun-blank : (n : Number) → begunWith n true ≡ true
-begun-blank Unwritten = refl
-begun-blank (Is n) = refl
-begun-blank Wrong = refl
-
-abbrev Begun : Number → Type 0
-Begun n = begunWith n false ≡ true
+begun-blank : (n : Number) (blanks : ℕ) → ltb 0 blanks ≡ true → begunWith n blanks ≡ true
+begun-blank Unwritten blanks h = h
+begun-blank (Is n) blanks h = refl
+begun-blank Wrong blanks h = refl
 
 -- what holds of both sides of a choice holds of it
 either : {A : Type 0} (F : A → Type 0) (t : Bool) {x y : A} → F x → F y → F (cond t x y)
 either F true p q = p
 either F false p q = q
 
-begun-digit : (n : Number) (b : ℕ) → Begun (digitAfter n b)
-begun-digit Unwritten b = either Begun (ltb b 48) refl (either Begun (ltb 57 b) refl refl)
-begun-digit (Is n) b = either Begun (eqb n 0) refl (either Begun (ltb b 48) refl (either Begun (ltb 57 b) refl (either Begun (ltb 255 (10 * n + (b - 48))) refl refl)))
+abbrev BegunNumber : Number → Type 0
+BegunNumber n = begunWith n 0 ≡ true
+
+begun-digit : (n : Number) (b : ℕ) → BegunNumber (digitAfter n b)
+begun-digit Unwritten b = either BegunNumber (ltb b 48) refl (either BegunNumber (ltb 57 b) refl refl)
+begun-digit (Is n) b =
+    either BegunNumber (eqb n 0) refl
+    (either BegunNumber (ltb b 48) refl
+    (either BegunNumber (ltb 57 b) refl (either BegunNumber (ltb largest (10 * n + (b - 48))) refl refl)))
 begun-digit Wrong b = refl
 
-begun-after : (l : Line) (b : ℕ) → begun (lineAfter l b) ≡ true
-begun-after l b = go (l .blank) (eqb b 32) refl refl
-  where
-    go : (x y : Bool) → l .blank ≡ x → eqb b 32 ≡ y → begun (lineAfter l b) ≡ true
-    go true y e f = rw e (begun-blank (l .leaf))
-    go false true e f = rw (e, f) (begun-blank (l .leaf))
-    go false false e f = rw (e, f) (begun-digit (l .leaf) b)
+abbrev Begun : Line → Type 0
+Begun l = begun l ≡ true
+
+begun-after : (l : Line) (b : ℕ) → Begun (lineAfter l b)
+begun-after l b =
+    either Begun (eqb (l .blanks) 0) (either Begun (eqb b 32) (begun-blank (l .leaf) 1 refl) (begun-digit (l .leaf) b))
+    (either Begun (eqb (l .blanks) 1) (either Begun (eqb b 32) (begun-blank (l .leaf) 2 refl) (begun-blank (l .leaf) 1 refl))
+    (begun-blank (l .leaf) 2 refl))
 
 begun-line : (l : Line) (bs : List ℕ) → begun l ≡ true → begun (lineOf l bs) ≡ true
 unfolding lineOf

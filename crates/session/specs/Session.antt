@@ -6,8 +6,10 @@ use mathlib.Core.Path.{_≡_}
 use Prim.Native.Nat.{ℕ}
 use lib.Dec.{eqb}
 use Rattle.job.specs.Job.{takeOf}
+use Rattle.job.specs.Timed.{takeTimedOf}
 use Rattle.state.specs.declared.Entry.{Entry}
 use Rattle.job.specs.declared.Job.{Job}
+use Rattle.job.specs.declared.Taken.{Taken}
 use Rattle.session.specs.Line.{freshLine, lineAfter, lineOf, begun, entryIn}
 use Rattle.session.specs.declared.line.Found.{Found}
 use Rattle.session.specs.declared.line.Found.the-variants as found
@@ -25,13 +27,26 @@ nextLine j = record { job = j; line = freshLine }
 abbrev pub silent : Session → Heard
 silent s = record { say = Nothing; session = s }
 
--- An entry goes to the job.
+-- The line is no entry: the job stays as it is.
+abbrev pub heardNoEntry : Job → Heard
+heardNoEntry j = record { say = NotAnEntry; session = nextLine j }
+
+-- The runner has answered: the job that it hands back goes on.
+abbrev pub heardAnswer : Taken → Heard
+heardAnswer t = record { say = Answer (t .answer); session = nextLine (t .job) }
+
+-- An entry without a minute goes to an untimed job; in a timed session it is no entry.
 abbrev pub heardEntry : Job → Entry → Heard
-heardEntry j e = record { say = Answer (takeOf j e .answer); session = nextLine (takeOf j e .job) }
+heardEntry j e = cond (j .timed) (heardNoEntry j) (heardAnswer (takeOf j e))
+
+-- One with a minute goes to a timed job; in an untimed session it is no entry.
+abbrev pub heardTimed : Job → Entry → ℕ → Heard
+heardTimed j e m = cond (j .timed) (heardAnswer (takeTimedOf j e m)) (heardNoEntry j)
 
 abbrev pub answeredTo : Job → Found → Heard
 answeredTo j (found.Entry e) = heardEntry j e
-answeredTo j found.NotAnEntry = record { say = NotAnEntry; session = nextLine j }
+answeredTo j (found.Timed e m) = heardTimed j e m
+answeredTo j found.NotAnEntry = heardNoEntry j
 
 -- The line that has come is whole.
 abbrev pub answered : Session → Heard

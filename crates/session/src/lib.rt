@@ -1,9 +1,10 @@
 // A session: a job, and the line that is coming in. Each byte of input is heard, and at the end of a line there is something to say.
 ghost use mathlib.Core.Path.{_≡_};
 ghost use Rattle.text.specs.Text.{textOf};
-ghost use Rattle.session.specs.Session.{nextLine, silent, heardEntry, answered, heardByte, heardEnd, sayLines};
+ghost use Rattle.session.specs.Session.{nextLine, silent, heardNoEntry, heardAnswer, heardEntry, heardTimed, answered, heardByte, heardEnd, sayLines};
 use job::Answer;
 use job::Job;
+use job::Taken;
 use line::Found;
 use line::Line;
 use state::Entry;
@@ -47,17 +48,46 @@ fn keep(session: Session) -> Heard
     }
 }
 
-// An entry goes to the job.
-fn hear_entry(job: Job, e: Entry) -> Heard
-    ensures { λ r. ⌜ r ≡ heardEntry job e ⌝ }
+// The line is no entry: the job stays as it is.
+fn not_an_entry(job: Job) -> Heard
+    ensures { λ r. ⌜ r ≡ heardNoEntry job ⌝ }
 {
-    let taken = job.take(e);
+    Heard {
+        say: Say::NotAnEntry,
+        session: next_line(job),
+    }
+}
+
+// The runner has answered: the job that it hands back goes on.
+fn answered(taken: Taken) -> Heard
+    ensures { λ r. ⌜ r ≡ heardAnswer taken ⌝ }
+{
     let answer = taken.answer;
     let next = taken.job;
     Heard {
         say: Say::Answer(answer),
         session: next_line(next),
     }
+}
+
+// An entry without a minute goes to an untimed job.
+fn hear_entry(job: Job, e: Entry) -> Heard
+    ensures { λ r. ⌜ r ≡ heardEntry job e ⌝ }
+{
+    if job.timed {
+        return not_an_entry(job);
+    }
+    answered(job.take(e))
+}
+
+// An entry with a minute goes to a timed job.
+fn hear_timed(job: Job, e: Entry, minute: u32) -> Heard
+    ensures { λ r. ⌜ r ≡ heardTimed job e minute ⌝ }
+{
+    if job.timed {
+        return answered(job.take_at(e, minute));
+    }
+    not_an_entry(job)
 }
 
 // The line that has come is whole.
@@ -68,10 +98,8 @@ fn answer(session: Session) -> Heard
     let line = session.line;
     match line::entry_of(line) {
         Found::Entry(e) => hear_entry(job, e),
-        Found::NotAnEntry => Heard {
-            say: Say::NotAnEntry,
-            session: next_line(job),
-        },
+        Found::Timed { entry, minute } => hear_timed(job, entry, minute),
+        Found::NotAnEntry => not_an_entry(job),
     }
 }
 

@@ -1,14 +1,15 @@
--- What a vector of each group comes to.
+-- What a vector of each group comes to. Those of `hours` are read as those of `runs`.
 use mathlib.Core.List.{List}
 use Prim.Native.Nat.{ℕ}
 use Rattle.vectors.specs.Files.{filesOutcome}
 use Rattle.vectors.specs.Runs.{runsOutcome}
 use Rattle.vectors.specs.Verdicts.{verdictsOutcome}
 use Rattle.vectors.specs.declared.Group.{Group}
-use Rattle.vectors.specs.declared.Group.the-variants.{Files, Runs, Verdicts}
+use Rattle.vectors.specs.declared.Group.the-variants.{Files, Runs, Hours, Verdicts}
 use Rattle.vectors.specs.declared.outcome.Outcome.{Outcome}
 
 abbrev pub outcomeIn : Group → List ℕ → Outcome
 outcomeIn Files body = filesOutcome body
 outcomeIn Runs body = runsOutcome body
+outcomeIn Hours body = runsOutcome body
 outcomeIn Verdicts body = verdictsOutcome body

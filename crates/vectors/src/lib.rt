@@ -8,9 +8,11 @@ pub mod outcome;
 pub mod runs;
 pub mod verdicts;
 
+// `Hours`: vectors as those of `Runs`, from a data file of their own.
 pub enum Group {
     Files,
     Runs,
+    Hours,
     Verdicts,
 }
 
@@ -21,6 +23,7 @@ pub fn compare(group: Group, body: &[u8]) -> Outcome
     match group {
         Group::Files => files::compare(body),
         Group::Runs => runs::compare(body),
+        Group::Hours => runs::compare(body),
         Group::Verdicts => verdicts::compare(body),
     }
 }

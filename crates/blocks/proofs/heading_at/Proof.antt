@@ -31,7 +31,7 @@ number-at-requires-2 c κs = omega (arith, inside (c .before))
 
 returns-2 : tie.Need-returns-2
 returns-2 c =
-    rw (sym (c .before .before .before .within .ensures) ∙ not-false _ (c .before .before .if1 .left), c .number-at2 .ensures, c .before .number-at .ensures)
+    rw (sym (c .before .before .before .within .ensures) ∙ not-false _ (c .before .before .if1 .left), c .number-at2 .ensures .0, c .before .number-at .ensures .0)
 
 pub heading-at-spec : {M : Type 1} → statement M
 heading-at-spec =

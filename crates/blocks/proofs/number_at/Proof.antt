@@ -1,4 +1,5 @@
 -- `blocks::number_at` meets its contract: two bytes, each below 256, so that the sum fits.
+use mathlib.Core.Path.{refl}
 use Prim.Native.Nat.{_+_}
 use borrow.Author.Needs.{needs}
 use native.Mathlib.Omega.{arith}
@@ -28,7 +29,8 @@ add-result c =
     omega (arith, c .shared-slice-known2 .given (c .before .before .args .at + 1), c .shared-slice-known2 .given (c .before .before .args .at))
 
 returns : tie.Need-returns
-returns c = search needs
+returns c =
+    (refl, omega (arith, c .shared-slice-known2 .given (c .before .before .args .at + 1), c .shared-slice-known2 .given (c .before .before .args .at)))
 
 pub number-at-spec : {M : Type 1} → statement M
 number-at-spec =

@@ -21,6 +21,12 @@ enum-told-3 c = search needs
 compare-requires-3 : tie.Need-compare-requires-3
 compare-requires-3 c κs = search needs
 
+enum-told-4 : tie.Need-enum-told-4
+enum-told-4 c = search needs
+
+compare-requires-4 : tie.Need-compare-requires-4
+compare-requires-4 c κs = search needs
+
 returns : tie.Need-returns
 returns c = rw (c .before .enum-told .given .1) (c .compare .ensures)
 
@@ -30,7 +36,22 @@ returns-2 c = rw (c .before .enum-told2 .given .1) (c .compare2 .ensures)
 returns-3 : tie.Need-returns-3
 returns-3 c = rw (c .before .enum-told3 .given .1) (c .compare3 .ensures)
 
+returns-4 : tie.Need-returns-4
+returns-4 c = rw (c .before .enum-told4 .given .1) (c .compare4 .ensures)
+
 pub compare-spec : {M : Type 1} → statement M
 compare-spec =
     tie.close
-    (tie.spec enum-told compare-requires enum-told-2 compare-requires-2 enum-told-3 compare-requires-3 returns returns-2 returns-3)
+    (tie.spec
+    enum-told
+    compare-requires
+    enum-told-2
+    compare-requires-2
+    enum-told-3
+    compare-requires-3
+    enum-told-4
+    compare-requires-4
+    returns
+    returns-2
+    returns-3
+    returns-4)

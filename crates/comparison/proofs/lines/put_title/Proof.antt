@@ -30,6 +30,15 @@ slice-aggregate-put-3 c = search needs
 put-requires-3 : tie.Need-put-requires-3
 put-requires-3 c κs = search needs
 
+enum-told-4 : tie.Need-enum-told-4
+enum-told-4 c = search needs
+
+slice-aggregate-put-4 : tie.Need-slice-aggregate-put-4
+slice-aggregate-put-4 c = search needs
+
+put-requires-4 : tie.Need-put-requires-4
+put-requires-4 c κs = search needs
+
 returns : tie.Need-returns
 returns c = rw (c .before .before .enum-told .given .1) (c .put .ensures)
 
@@ -38,6 +47,9 @@ returns-2 c = rw (c .before .before .enum-told2 .given .1) (c .put2 .ensures)
 
 returns-3 : tie.Need-returns-3
 returns-3 c = rw (c .before .before .enum-told3 .given .1) (c .put3 .ensures)
+
+returns-4 : tie.Need-returns-4
+returns-4 c = rw (c .before .before .enum-told4 .given .1) (c .put4 .ensures)
 
 pub put-title-spec : {M : Type 1} → statement M
 put-title-spec =
@@ -52,6 +64,10 @@ put-title-spec =
     enum-told-3
     slice-aggregate-put-3
     put-requires-3
+    enum-told-4
+    slice-aggregate-put-4
+    put-requires-4
     returns
     returns-2
-    returns-3)
+    returns-3
+    returns-4)

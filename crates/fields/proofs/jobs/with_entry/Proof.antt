@@ -22,8 +22,8 @@ add-entries c = search needs
 array-write-entries-2 : tie.Need-array-write-entries-2
 array-write-entries-2 c = search needs
 
-add-t7 : tie.Need-add-t7
-add-t7 c = search needs
+add-t9 : tie.Need-add-t9
+add-t9 c = search needs
 
 returns-2 : tie.Need-returns-2
 returns-2 c = simp (lt-ltb _ _ (c .if1 .left))
@@ -38,5 +38,5 @@ with-entry-spec =
     mul-entries-2
     add-entries
     array-write-entries-2
-    add-t7
+    add-t9
     returns-2)

@@ -1,37 +1,20 @@
--- `session::line::entry_of` meets its contract, row by row.
+-- `session::line::entry_of` meets its contract: each return by the test that led there.
+use borrow.Author.Tests.{lt-ltb, le-ltb}
 use borrow.Author.Needs.{needs}
 use Rattle.session.proofs.line.entry_of.Statement.{statement}
 use Rattle.session.proofs.line.entry_of.Tie as tie
 
-enum-told : tie.Need-enum-told
-enum-told c = search needs
-
-enum-known-leaf : tie.Need-enum-known-leaf
-enum-known-leaf c = search needs
-
-with-outcome-requires : tie.Need-with-outcome-requires
-with-outcome-requires c κs = search needs
-
-enum-told-2 : tie.Need-enum-told-2
-enum-told-2 c = search needs
+with-leaf-requires : tie.Need-with-leaf-requires
+with-leaf-requires c κs = search needs
 
 returns : tie.Need-returns
-returns c = search needs
+returns c = simp (lt-ltb _ _ (c .if1 .taken)) (c .before .before .with-leaf .ensures)
+
+timed-requires : tie.Need-timed-requires
+timed-requires c κs = search needs
 
 returns-2 : tie.Need-returns-2
-returns-2 c = rw (c .before .before .leaf .given .1) (c .with-outcome .ensures)
-
-returns-3 : tie.Need-returns-3
-returns-3 c = search needs
+returns-2 c = simp (le-ltb _ _ (c .before .if1 .left), ← c .before .before .before .with-leaf .ensures) (c .timed .ensures)
 
 pub entry-of-spec : {M : Type 1} → statement M
-entry-of-spec =
-    tie.close
-    (tie.spec
-    enum-told
-    enum-known-leaf
-    with-outcome-requires
-    enum-told-2
-    returns
-    returns-2
-    returns-3)
+entry-of-spec = tie.close (tie.spec with-leaf-requires returns timed-requires returns-2)

@@ -1,12 +1,10 @@
 -- `vectors::runs::steps` meets its contract: what agrees of the whole is the steps passed and what agrees of those left.
 -- The measure is the number of those left.
-use mathlib.Core.Path.{_≡_, sym, ap, _∙_}
-use Prim.Native.Nat.{_+_, _*_, _-_, _≤_}
+use mathlib.Core.Path.{sym, ap, _∙_}
+use Prim.Native.Nat.{_-_}
 use borrow.Author.Tests.{not-true, not-false}
-use Rattle.vectors.specs.Runs.{agreeing}
 use Rattle.vectors.specs.declared.runs.Stepped.{Stepped}
 use Rattle.vectors.proofs.Steps.{Along, along-none, along-more, along-stop, along-all}
-use borrow.Author.Needs.{needs}
 use native.Mathlib.Omega.{arith}
 use Rattle.vectors.proofs.runs.steps.Statement.{statement}
 use Rattle.vectors.proofs.runs.steps.Tie as tie
