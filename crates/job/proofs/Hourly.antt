@@ -20,8 +20,8 @@ use Rattle.plan.proofs.Blocks.{body-length}
 use Rattle.plan.proofs.Inside.{types-inside}
 use Rattle.state.specs.declared.Entry.{Entry}
 use Rattle.job.specs.Job.{mostWindows, refusal, planOf, zerosFrom, takeOf}
-use Rattle.job.specs.Timed.{struckOut, windowsOf, timedTidy, keptOn, timedTest, atMinute, takeTimedWith, takeTimedOn, takeTimedOf}
-use Rattle.job.specs.TimedRunner.{actionsOf, withHours}
+use Rattle.job.specs.Timed.{struckOut, windowsOf, timedTidy, keptOn, timedTest, atMinute, takeTimedWith, takeTimedOn, takeTimedOf, withHours}
+use Rattle.job.specs.TimedRunner.{actionsOf}
 use Rattle.job.specs.declared.Answer.the-variants as answer
 use Rattle.job.specs.declared.Job.{Job}
 use Rattle.job.specs.declared.Taken.{Taken}

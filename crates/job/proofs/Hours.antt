@@ -24,8 +24,8 @@ use Rattle.state.specs.declared.Entry.{Entry}
 use Rattle.job.specs.Job.{saying, refusal, withEntry, takeOf}
 use Rattle.job.specs.Numbers.{numberOf, Refuses}
 use Rattle.job.specs.Offer.{Standing, onAnswer, next, offer, TakesAll, no-more, one-more, started}
-use Rattle.job.specs.Timed.{takeTimedOf}
-use Rattle.job.specs.TimedRunner.{TimedEntry, nextTimed, offerTimed, startedTimed, withHours, KeepsHours}
+use Rattle.job.specs.Timed.{takeTimedOf, withHours}
+use Rattle.job.specs.TimedRunner.{TimedEntry, nextTimed, offerTimed, startedTimed, KeepsHours}
 use Rattle.job.specs.declared.Answer.the-variants as answer
 use Rattle.job.specs.declared.Job.{Job}
 use Rattle.job.specs.declared.Taken.{Taken}

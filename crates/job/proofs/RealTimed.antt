@@ -20,8 +20,8 @@ use Rattle.state.specs.State.{toldBy, entryAt, stateAfter}
 use Rattle.state.specs.declared.Replayed.{Replayed}
 use Rattle.job.specs.Job.{mostWindows, mostMinute, saying, planOf, withEntry}
 use Rattle.job.specs.Offer.{Standing, onAnswer, Real, Sized}
-use Rattle.job.specs.Timed.{struckOut, windowsOf, timedTidy, keptOn, timedTest, takeTimedOf}
-use Rattle.job.specs.TimedRunner.{TimedEntry, nextTimed, offerTimed, startedTimed, withHours, RealTimed}
+use Rattle.job.specs.Timed.{struckOut, windowsOf, timedTidy, keptOn, timedTest, takeTimedOf, withHours}
+use Rattle.job.specs.TimedRunner.{TimedEntry, nextTimed, offerTimed, startedTimed, RealTimed}
 use Rattle.job.specs.declared.Answer.{Answer}
 use Rattle.job.specs.declared.Answer.the-variants as answer
 use Rattle.job.specs.declared.Job.{Job}

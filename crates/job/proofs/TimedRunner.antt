@@ -14,12 +14,14 @@ use Rattle.plan.specs.Reading.{bytesOf, readOf}
 use Rattle.plan.specs.declared.Layout.{Layout}
 use Rattle.plan.specs.declared.Reading.{Reading}
 use Rattle.plan.specs.declared.Reading.the-variants as reading
+use Rattle.state.specs.State.{entriesFrom}
 use Rattle.state.specs.declared.Entry.{Entry}
 use Rattle.job.specs.Job.{noJob, startWith, refusal, planOf, zerosFrom, tidy, takeOn, takeOf}
+use Rattle.job.specs.Demand2.{Starts}
 use Rattle.job.specs.Numbers.{Refuses}
 use Rattle.job.specs.Offer.{Standing, started, Real, Sized}
 use Rattle.job.specs.Timed.{struckOut, freshTimed, startTimedOn, startTimedOf, windowsOf, timedTidy, keptOn, timedTest, atMinute, takeTimedOn, takeTimedOf}
-use Rattle.job.specs.TimedRunner.{actionsOf, TimedEntry, offerTimed, startedTimed, StartsTimed, RealTimed, SaysNoHours, TimedRunner}
+use Rattle.job.specs.TimedRunner.{actionsOf, TimedEntry, offerTimed, startedTimed, RealTimed, SaysNoHours, TimedRunner}
 use Rattle.job.specs.declared.Job.{Job}
 use Rattle.job.specs.declared.Taken.{Taken}
 use Rattle.job.proofs.Tidy.{untimed-is}
@@ -38,9 +40,10 @@ module _ (s w : List ℕ) (l : Layout) (acc : readOf s ≡ reading.Accepted l) w
       ap (startTimedOn s w) acc
       ∙ ap (λ (k : ℕ). cond (eqb k 0) (record { answer = startWith s l .answer; job = freshTimed s w }) (refusal k noJob)) h
 
-  starts-so : WindowFile (actionsOf s l) w → StartsTimed (startedTimed s l w) (startTimedOf s w)
+  starts-so : WindowFile (actionsOf s l) w → Starts (startedTimed s l w) (startTimedOf s w)
+  unfolding entriesFrom
   starts-so f =
-      rw (started-with 0 (reads-windows .accepts (l .types .len) w .1 (for-layout s l acc w f))) (record { number = refl; next = refl; end = refl; job = refl })
+      rw (started-with 0 (reads-windows .accepts (l .types .len) w .1 (for-layout s l acc w f))) (record { number = refl; next = refl; end = refl; job = refl; fresh = refl })
 
   no-windows-so : (WindowFile (actionsOf s l) w → ⊥) → Refuses 23 noJob (startTimedOf s w)
   no-windows-so n =

@@ -24,7 +24,7 @@ use Rattle.job.specs.declared.Taken.{Taken}
 abbrev pub struckOut : Job → Job
 struckOut j = untimedJob (j .file) (j .«file_len») (j .entries) (j .taken)
 
--- the timed job with the plan and record of j
+-- the timed job with the plan and record of j, this area of windows and this minute
 abbrev pub timedJob : Job → List ℕ → ℕ → ℕ → Job
 timedJob j windows len minute = record {
   file = j .file;
@@ -37,9 +37,13 @@ timedJob j windows len minute = record {
   minute = minute;
 }
 
--- The fresh timed job of a plan file and a window file: the bytes of both, each with zeros after it, no entry, and the minute 0.
+-- The same by the bytes of the window file: they are kept with zeros after them.
+abbrev pub withHours : List ℕ → Job → ℕ → Job
+withHours w j minute = timedJob j (w ++ replicate (mostWindows - length w) 0) (length w) minute
+
+-- The fresh timed job of a plan file and a window file: no entry, and the minute 0.
 abbrev pub freshTimed : List ℕ → List ℕ → Job
-freshTimed s w = timedJob (freshJob s) (w ++ replicate (mostWindows - length w) 0) (length w) 0
+freshTimed s w = withHours w (freshJob s) 0
 
 -- "at the start, after the plan file, 23"
 abbrev pub startTimedWith : List ℕ → List ℕ → Layout → Taken

@@ -3,9 +3,9 @@
 -- values of the type Job count as false. `timed-runner` in proofs/ proves it. What the untimed runner accepts and tells is Demand 2.
 use mathlib.Core.Path.{_≡_}
 use mathlib.Core.Bool.{true, false}
-use mathlib.Core.List.{List, [], _∷_, _++_}
+use mathlib.Core.List.{List, [], _∷_}
 use mathlib.Core.Logic.{_↔_}
-use Prim.Native.Nat.{ℕ, _-_, _≤_, _<_}
+use Prim.Native.Nat.{ℕ, _≤_, _<_}
 use lib.ListN.{length, replicate}
 use Rattle.hours.specs.Windows.{WindowFile}
 use Rattle.hours.specs.Hours.{OpenAt}
@@ -15,11 +15,11 @@ use Rattle.plan.specs.declared.Reading.the-variants.{Accepted, Refused}
 use Rattle.state.specs.State.{entriesFrom}
 use Rattle.state.specs.declared.Entry.{Entry}
 use Rattle.job.specs.Job.{mostWindows, mostMinute, noJob, takeOf}
-use Rattle.job.specs.Numbers.{numberOf, nextOf, endNumber, endOf, Refuses}
+use Rattle.job.specs.Demand2.{Starts}
+use Rattle.job.specs.Numbers.{numberOf, Refuses}
 use Rattle.job.specs.Offer.{Standing, onAnswer, TakesAll, started, Real, Sized}
-use Rattle.job.specs.Timed.{struckOut, timedJob, freshTimed, startTimedOf, timedTest, takeTimedOf}
+use Rattle.job.specs.Timed.{struckOut, withHours, freshTimed, startTimedOf, timedTest, takeTimedOf}
 use Rattle.job.specs.declared.Job.{Job}
-use Rattle.job.specs.declared.Taken.{Taken}
 
 -- how many actions the plan has: one byte of types for each
 abbrev pub actionsOf : List ℕ → Layout → ℕ
@@ -42,17 +42,6 @@ offerTimed x (t ∷ ts) = offerTimed (nextTimed x t) ts
 -- where a start on an accepted plan file with this layout and the window file w stands: it has told what the untimed start tells
 abbrev pub startedTimed : List ℕ → Layout → List ℕ → Standing
 startedTimed s l w = record { job = freshTimed s w; told = started s l .told }
-
--- A start that is not refused: what it tells, and the fresh timed job.
-pub record StartsTimed (x : Standing) (t : Taken) : Type 0 where
-  pub number : numberOf (t .answer) ≡ 0
-  pub next : nextOf (t .answer) ≡ x .told .next
-  pub end : endOf (t .answer) ≡ endNumber (x .told .end)
-  pub job : t .job ≡ x .job
-
--- the job of an untimed one, with the window file w and a minute
-abbrev pub withHours : List ℕ → Job → ℕ → Job
-withHours w j m = timedJob j (w ++ replicate (mostWindows - length w) 0) (length w) m
 
 -- What holds wherever a fresh timed job stands after some timed entries, refused ones passed over.
 pub record KeepsHours (s : List ℕ) (l : Layout) (w : List ℕ) (x : Standing) : Type 0 where
@@ -97,7 +86,7 @@ pub record SaysNoHours (j : Job) : Type 0 where
 
 pub record TimedRunner : Type 0 where
   -- a start: the plan file's number first, then 23 exactly where the other is no window file for the plan
-  pub starts : (s w : List ℕ) (l : Layout) → readOf s ≡ Accepted l → WindowFile (actionsOf s l) w → StartsTimed (startedTimed s l w) (startTimedOf s w)
+  pub starts : (s w : List ℕ) (l : Layout) → readOf s ≡ Accepted l → WindowFile (actionsOf s l) w → Starts (startedTimed s l w) (startTimedOf s w)
   pub turns-away : (s w : List ℕ) (n : ℕ) → readOf s ≡ Refused n → Refuses n noJob (startTimedOf s w)
   pub no-windows : (s w : List ℕ) (l : Layout) → readOf s ≡ Accepted l → (WindowFile (actionsOf s l) w → ⊥) → Refuses 23 noJob (startTimedOf s w)
   -- every list of timed entries offered to a fresh timed job
