@@ -102,9 +102,9 @@ WINDOWS = {'none': b'', 'refused-23': window(0, 700, 600), 'too-long': window_fi
 
 # Sessions by hand with a window file: the plan, the window file, the lines, and how the last that is told ends.
 TIMED_SESSIONS = {
-    # the sweep may not come before eight, and comes on Monday at two; the store may not come at night, nor at a minute before the sweep, which is 21 and not 22; it fails
+    # the sweep may not come before eight, and comes on Monday at two; the store may not come at night, nor at a minute before the sweep, which is 21 and not 22; node 3 is no leaf, which is 11 and not 21; the store fails
     # on Tuesday at eight, may not come again from six in the evening on, and does on the next Tuesday; the time comes at the same minute, the filing late on a Sunday
-    'hours': ('mended', 'hall', b'0 1 479\n0 1 840\n1 1 1380\n1 1 839\n3 1 1920\n1 2 1920\n2 1 2520\n2 1 1919\n2 1 12000\n5 1 12000\n7 1 11999\n7 1 20159\n',
+    'hours': ('mended', 'hall', b'0 1 479\n0 1 840\n1 1 1380\n1 1 839\n3 1 839\n1 2 1920\n2 1 2520\n2 1 1919\n2 1 12000\n5 1 12000\n7 1 11999\n7 1 20159\n',
               'may end succeeded'),
     # entries that may not come, at minutes that could be refused as well: 11 before 21 and 22
     'hours-two-refusals': ('p1', 'hall', b'0 1 0\n0 1 600\n0 1 599\n0 1 0\n0 1 9000\n3 1 0\n3 1 599\n3 1 600\n3 1 700\n', 'may end succeeded'),

@@ -44,9 +44,10 @@ another-length : (windowsFault 2 (0 ∷ 224 ∷ 1 ∷ 252 ∷ []) ≡ 23) × (wi
 unfolding every
 another-length = (refl, refl)
 
-action-twice : windowsFault 2 (by-day ++ window 0 1020 1080) ≡ 23
+-- with other hours or the same, next to each other or not
+action-twice : (windowsFault 2 (by-day ++ window 0 1020 1080) ≡ 23) × (windowsFault 2 (by-day ++ by-day) ≡ 23) × (windowsFault 2 (both ++ by-day) ≡ 23)
 unfolding every
-action-twice = refl
+action-twice = (refl, refl, refl)
 
 action-too-large : (windowsFault 2 (window 2 480 1020) ≡ 23) × (windowsFault 3 (window 2 480 1020) ≡ 0)
 unfolding every
@@ -82,6 +83,22 @@ earlier = (refl, refl, refl)
 second : (entryFault both nodes 1 0 59 ≡ 22) × (entryFault both nodes 1 0 60 ≡ 0) × (entryFault both nodes 1 0 120 ≡ 22)
 unfolding leafWindow windowFrom
 second = (refl, refl, refl)
+
+-- The window is that of the leaf's action, and not of its place in the file or of the leaf's number: leaves of the actions 2, 0 and 1, and windows of 1
+-- and 2.
+abbrev mixed : List ℕ
+mixed = 0 ∷ 2 ∷ 0 ∷ 0 ∷ 0 ∷ 0 ∷ 0 ∷ 1 ∷ 0 ∷ 3 ∷ 0 ∷ 1 ∷ 3 ∷ 3 ∷ 2 ∷ []
+
+abbrev two-hours : List ℕ
+two-hours = window 1 60 120 ++ window 2 480 1020
+
+of-its-action : (entryFault two-hours mixed 0 0 480 ≡ 0) × (entryFault two-hours mixed 0 0 479 ≡ 22) × (entryFault two-hours mixed 0 0 60 ≡ 22)
+    × (entryFault two-hours mixed 1 0 0 ≡ 0)
+    × (entryFault two-hours mixed 2 0 60 ≡ 0)
+    × (entryFault two-hours mixed 2 0 120 ≡ 22)
+    × (entryFault two-hours mixed 2 0 480 ≡ 22)
+unfolding leafWindow windowFrom
+of-its-action = (refl, refl, refl, refl, refl, refl, refl)
 
 -- at any minute: an action without a window, a skip and a throw, though their bytes name action 0, and whatever comes without windows
 any-minute : (w : List ℕ) (n : ℕ) → leafWindow w nodes n ≡ wholeWeek → (last m : ℕ) → last ≤ m → entryFault w nodes n last m ≡ 0

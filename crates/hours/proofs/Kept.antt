@@ -1,17 +1,17 @@
 -- The minutes of a record and the refusals of an entry, for those who go on from them: what a test says and what makes it hold. The earliest minutes
--- are in order, and the minute that a record's last entry came at is not before them, since no minute in order and inside is less than the earliest.
-use mathlib.Core.Path.{_≡_, refl, sym, _∙_}
+-- will do, and the minute that a record's last entry came at is not before them, since no minute in order and inside is less than the earliest.
+use mathlib.Core.Path.{_≡_, refl, sym, subst, _∙_}
 use mathlib.Core.Bool.{Bool, true, false, cond}
 use mathlib.Core.List.{List}
 use Prim.Native.Nat.{ℕ, zero, suc, _+_, _-_, _≤_, _<_}
 use native.Mathlib.Numerals.{add-one}
 use native.Mathlib.Omega.{arith}
 use lib.Dec.{eqb, leb, ltb, eqb·suc-zero}
-use borrow.Author.Tests.{eqb-true, eq-eqb, leb-true, leb-false, le-leb, ltb-false, lt-ltb, le-ltb}
+use borrow.Author.Tests.{eqb-true, eq-eqb, leb-true, le-leb, ltb-false, lt-ltb, le-ltb}
 use Rattle.blocks.proofs.Bounded.{both-true}
 use Rattle.hours.specs.Windows.{windowsFault, WindowFile}
-use Rattle.hours.specs.Hours.{leafWindow, inside, earliest, entryFault}
-use Rattle.hours.specs.Kept.{leafOf, soonest, cameBy, kept}
+use Rattle.hours.specs.Hours.{leafWindow, inside, entryFault}
+use Rattle.hours.specs.Kept.{leafOf, Came, no-entry, one-more, soonest, cameBy, KeepsRecords, kept}
 use Rattle.hours.proofs.ReadsWindows.{reads-windows}
 use Rattle.hours.proofs.KeepsWindows.{keeps-windows}
 
@@ -39,10 +39,6 @@ module _ (w nodes r : List ℕ) where
   came-none = refl
 
   -- one entry more
-  soonest-more : (k : ℕ) → soonest w nodes r (k + 1) ≡ earliest (leafWindow w nodes (leafOf r k)) (soonest w nodes r k)
-  unfolding soonest
-  soonest-more k = rw (add-one k)
-
   came-suc : (k m : ℕ) → cameBy w nodes r (suc k) m ≡ cond (leb (soonest w nodes r k) m) (inside (leafWindow w nodes (leafOf r k)) m) false
   came-suc k m = let e : suc k - 1 ≡ k = omega arith in rw (eqb·suc-zero k, e)
 
@@ -88,18 +84,20 @@ module _ (actions : ℕ) (w : List ℕ) (f : WindowFile actions w) (nodes r : Li
       → cameBy w nodes r (taken + 1) m′ ≡ true
   came-more taken m m′ h l = came-then w nodes r taken m′ (omega (arith, soonest-before taken m h))
 
-  pub soonest-grows : (k : ℕ) → soonest w nodes r k ≤ soonest w nodes r (k + 1)
-  soonest-grows k = rw (soonest-more w nodes r k) (keeps-windows .not-before actions w nodes (leafOf r k) (soonest w nodes r k) f)
+  -- so the test is the statement: each entry but the last can have come at its earliest minute
+  pub came-says : (k m : ℕ) → cameBy w nodes r k m ≡ true → Came w nodes r k m
+  came-says zero m h = subst (Came w nodes r 0) (sym (eqb-true m 0 h)) no-entry
+  came-says (suc k) m h =
+      let (late, within) = came-last w nodes r k m (rw (← add-one k) at h) in
+      one-more (came-says k (soonest w nodes r k) (came-soonest k)) late (keeps-windows .tells actions w nodes (leafOf r k) m f .0 within)
 
-  pub soonest-upto : (i k : ℕ) → i ≤ k → soonest w nodes r i ≤ soonest w nodes r k
-  soonest-upto i zero l = let e : i ≡ 0 = omega arith in rw e (omega arith)
-  soonest-upto i (suc k) l = go (soonest-upto i k) (leb i k) refl
-    where
-      go : (i ≤ k → soonest w nodes r i ≤ soonest w nodes r k) → (t : Bool) → leb i k ≡ t → soonest w nodes r i ≤ soonest w nodes r (suc k)
-      go rest true e = omega (arith, rest (leb-true i k e), rw (add-one k) at (soonest-grows k))
-      go rest false e =
-          let here : i ≡ suc k = omega (arith, leb-false i k e) in
-          rw here (omega arith)
+  pub came-holds : (k m : ℕ) → Came w nodes r k m → cameBy w nodes r k m ≡ true
+  came-holds zero m no-entry = refl
+  came-holds (suc k) m (one-more {m = before} c late within) =
+      rw (← add-one k) (came-more k before m (came-holds k before c) late (keeps-windows .tells actions w nodes (leafOf r k) m f .1 within))
+
+pub keeps-records : KeepsRecords
+keeps-records = record { tells = λ actions w nodes r taken m f. (came-says actions w f nodes r taken m, came-holds actions w f nodes r taken m) }
 
 -- a job that is kept
 pub kept-says : (actions : ℕ) (w nodes r : List ℕ) (taken m : ℕ) → kept actions w nodes r taken m ≡ true

@@ -7,7 +7,7 @@ use Prim.Native.Nat.{ℕ, _+_, _^_, _≤_}
 use native.Mathlib.Omega.{arith}
 use lib.ListN.{length}
 use Rattle.blocks.specs.Bounded.{every, total}
-use Rattle.hours.specs.Hours.{leafWindow}
+use Rattle.hours.specs.Hours.{windowFrom, leafWindow}
 use Rattle.hours.specs.Kept.{soonest}
 use Rattle.process.specs.Process.{ok, fail, entry}
 use Rattle.nodes.specs.Fold.{foldFrom}
@@ -18,8 +18,8 @@ use Rattle.plan.specs.declared.Reading.the-variants.{Accepted}
 use Rattle.runs.proofs.Leaves.{holds-none, holds-only}
 use Rattle.state.specs.State.{toldBy, leafPermits, mayCome, replay, entriesFrom}
 use Rattle.state.specs.declared.Entry.{Entry}
-use Rattle.job.specs.Job.{mostMinute, takeOf}
-use Rattle.job.specs.Timed.{freshTimed, startTimedOf, takeTimedOf}
+use Rattle.job.specs.Job.{mostMinute, freshJob, withEntry, takeOf}
+use Rattle.job.specs.Timed.{withHours, freshTimed, startTimedOf, takeTimedOf}
 use Rattle.job.specs.declared.Job.{Job}
 use Rattle.job.specs.Numbers.{numberOf, endNumber}
 use Rattle.job.specs.Offer.{Standing, offer, TakesAll, no-more, one-more, started}
@@ -136,3 +136,26 @@ in-turn : (at-seven .minute ≡ 7) × (numberOf (takeTimedOf at-seven (record { 
     × (numberOf (takeTimedOf at-seven (record { leaf = 1; outcome = 2 }) 7 .answer) ≡ 0)
 unfolding every total foldFrom ruleFrom toldBy leafPermits mayCome replay entriesFrom leafWindow soonest
 in-turn = (refl, refl, refl, refl)
+
+-- a job that is made up, with the skip at the largest minute, is real
+at-the-end : numberOf (takeTimedOf (withHours [] (withEntry (freshJob file) (record { leaf = 0; outcome = 1 })) mostMinute) (record { leaf = 1; outcome = 2 }) mostMinute .answer) ≡ 0
+unfolding every total foldFrom ruleFrom toldBy leafPermits mayCome replay entriesFrom leafWindow soonest
+at-the-end = refl
+
+-- A plan of two actions, of which its one leaf has the second, and hours for both: action 0 by night, action 1 by day.
+abbrev alone : List ℕ
+alone = 2 ∷ 0 ∷ 1 ∷ 0 ∷ 3 ∷ 3 ∷ 0 ∷ 0 ∷ 2 ∷ 0 ∷ 3 ∷ 0 ∷ 3 ∷ 0 ∷ 0 ∷ 1 ∷ 0 ∷ 1 ∷ 0 ∷ 4 ∷ 0 ∷ 0 ∷ []
+
+abbrev hours : List ℕ
+hours = 0 ∷ 60 ∷ 0 ∷ 120 ∷ 0 ∷ 1 ∷ 224 ∷ 1 ∷ 252 ∷ 3 ∷ []
+
+-- leaf 0, finished, at minute m, of the job of it without an entry, with this minute
+abbrev answered : ℕ → ℕ → ℕ
+answered minute m = numberOf (takeTimedOf (withHours hours (freshJob alone) minute) (record { leaf = 0; outcome = 1 }) m .answer)
+
+-- from 480 on and before 1,020; and without an entry there was no minute but 0
+by-day : (answered 0 60 ≡ 22) × (answered 0 479 ≡ 22) × (answered 0 480 ≡ 0) × (answered 0 1019 ≡ 0) × (answered 0 1020 ≡ 22) × (answered 0 10560 ≡ 0)
+    × (answered 480 480 ≡ 11)
+    × (answered mostMinute mostMinute ≡ 11)
+unfolding every total foldFrom ruleFrom toldBy leafPermits mayCome replay entriesFrom leafWindow windowFrom soonest
+by-day = (refl, refl, refl, refl, refl, refl, refl, refl)

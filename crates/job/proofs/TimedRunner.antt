@@ -153,6 +153,7 @@ timed-runner = record {
       keeps-hours s l acc w g (offerTimed (startedTimed s l w) ts) (offered-kept s l acc w g ts (startedTimed s l w) (started-kept s l acc w g));
   false-jobs = false-refused;
   decides = λ j z. (λ r. (passes j r, struck-real j r), λ (h, r). passing-real j z h r);
+  tested = λ j h t. refuses-so 11 j (takeTimedOf j (t .entry) (t .minute)) (test-failed j (t .entry) (t .minute) h);
   minute-due = minute-due-so;
   no-minute-due = no-minute-due-so;
   says-none = says-none-so;

@@ -94,8 +94,10 @@ pub record TimedRunner : Type 0 where
       → KeepsHours s l w (offerTimed (startedTimed s l w) ts)
   -- a value that no plan file, no window file and no list of timed entries give is refused with 11, whatever the entry and its minute
   pub false-jobs : (j : Job) → Sized j → (RealTimed j → ⊥) → (t : TimedEntry) → Refuses 11 j (takeTimedOf j (t .entry) (t .minute))
-  -- the test in the code decides that: a job with hours is real exactly where it passes and the untimed job with its plan and record is real
+  -- the test in the code decides that: a job with hours is real exactly where it passes and the untimed job with its plan and record is real, which
+  -- the untimed runner decides; and where a job fails it, the entry is refused with 11
   pub decides : (j : Job) → Sized j → RealTimed j ↔ ((timedTest j ≡ true) × Real (struckOut j))
+  pub tested : (j : Job) → timedTest j ≡ false → (t : TimedEntry) → Refuses 11 j (takeTimedOf j (t .entry) (t .minute))
   -- a timed job counts as false where an entry comes without a minute, and an untimed one where it comes with one
   pub minute-due : (j : Job) → j .timed ≡ true → (e : Entry) → Refuses 11 j (takeOf j e)
   pub no-minute-due : (j : Job) → j .timed ≡ false → (t : TimedEntry) → Refuses 11 j (takeTimedOf j (t .entry) (t .minute))

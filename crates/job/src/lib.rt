@@ -11,6 +11,7 @@ ghost use lib.ListN.{length};
 ghost use Rattle.plan.specs.PlanFile.{mostBytes, Runnable};
 ghost use Rattle.plan.specs.Reading.{bytesOf, readOf};
 ghost use Rattle.job.specs.Job.{limits, endOf, saying, refusal, untimedJob, noJob, freshJob, startWith, startOf, zerosFrom, tidy, untimed, withEntry, afterEntry, takeWith, takeOn, takeOf, planOf};
+ghost use Rattle.job.specs.Offer.{Sized};
 ghost use Rattle.job.specs.Timed.{startTimedOf, takeTimedOf};
 
 mod timed;
@@ -110,9 +111,11 @@ fn zero_past(i: usize, at: usize, x: u8) -> bool
     x == 0
 }
 
-// Whether the lengths are in range and the bytes past the plan file and past the record are 0.
+// Whether the lengths are in range and the bytes past the plan file and past the record are 0. Every value of the type has the sizes that the
+// promises on made-up jobs ask for.
 fn is_tidy(j: Job) -> bool
     ensures { λ r. ⌜ r ≡ tidy j ⌝ }
+    ensures { λ r. ⌜ Sized j ⌝ }
 {
     let file = j.file;
     let entries = j.entries;

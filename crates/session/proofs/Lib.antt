@@ -1,3 +1,4 @@
 pub mod Hearing
 pub mod Numbers
 pub mod Entries
+pub mod Answers

@@ -1,3 +1,4 @@
 pub mod Line
 pub mod Session
 pub mod Entries
+pub mod Answers

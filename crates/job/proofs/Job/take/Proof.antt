@@ -32,11 +32,11 @@ refuse-requires-2 : tie.Need-refuse-requires-2
 refuse-requires-2 c κs = search needs
 
 returns-2 : tie.Need-returns-2
-returns-2 c = rw (plain (c .before .before .before), sym (c .before .before .is-tidy .ensures) ∙ not-true _ (c .before .if2 .taken)) (c .refuse2 .ensures)
+returns-2 c = rw (plain (c .before .before .before), sym (c .before .before .is-tidy .ensures .0) ∙ not-true _ (c .before .if2 .taken)) (c .refuse2 .ensures)
 
 -- and tidy
 passed : (c : tie.Else2) → tidy (c .before .before .before .before .args .self) ≡ true
-passed c = sym (c .before .is-tidy .ensures) ∙ not-false _ (c .if2 .left)
+passed c = sym (c .before .is-tidy .ensures .0) ∙ not-false _ (c .if2 .left)
 
 array-share-prefix-file : tie.Need-array-share-prefix-file
 array-share-prefix-file c =
