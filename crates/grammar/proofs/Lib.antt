@@ -1,0 +1,10 @@
+pub mod Lexing
+pub mod Views
+pub mod Readings
+pub mod Rules
+pub mod Senses
+pub mod Passing
+pub mod Parsing
+pub mod Decided
+pub mod TypedRules
+pub mod Examples

@@ -1,0 +1,9 @@
+pub mod Token
+pub mod Spelling
+pub mod Grammar
+pub mod Typed
+pub mod Sense
+pub mod Next
+pub mod Passes
+pub mod Readings
+pub mod Examples

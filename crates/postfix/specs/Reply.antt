@@ -1,0 +1,32 @@
+-- What the program says to an input. "A single newline at the very end of the input is not part of the text." "A text of over 65,536 bytes is told
+-- on standard error as too long, and nothing is written." The proof of the promise is `reads-enough`.
+use mathlib.Core.Path.{_≡_}
+use mathlib.Core.Bool.{true, false, cond}
+use mathlib.Core.List.{List}
+use Prim.Native.Nat.{ℕ, _+_, _-_}
+use lib.Dec.{ltb, eqb}
+use lib.ListN.{length, getD, take}
+use Rattle.text.specs.Text.{empty, textOf}
+use Rattle.formula.specs.Answer.{answerOf}
+use Rattle.postfix.specs.Line.{lineFor}
+use Rattle.postfix.specs.declared.Reply.{Reply}
+
+abbrev pub longest : ℕ
+longest = 65536
+
+abbrev pub typedLength : List ℕ → ℕ
+typedLength input = cond (eqb (getD input (length input - 1) 0) 10) (length input - 1) (length input)
+
+-- the text that was typed
+abbrev pub typedIn : List ℕ → List ℕ
+typedIn input = take (typedLength input) input
+
+abbrev pub replyTo : List ℕ → Reply
+replyTo input =
+    cond (ltb longest (typedLength input))
+    (record { «too_long» = true; line = empty })
+    (record { «too_long» = false; line = textOf (lineFor (answerOf (typedIn input))) })
+
+-- To an input of which no more is read than a text and two bytes the same is said as to all of it.
+pub record ReadsEnough : Type 0 where
+  pub cut : (input : List ℕ) → replyTo (take (longest + 2) input) ≡ replyTo input
