@@ -1,7 +1,7 @@
 #!/usr/bin/env python3
 """Writes the vectors of the program `compare` anew: tests/make_vectors.py MODEL
 
-MODEL is the folder of the model (plans.py says which). Written: crates/compare/data/files, runs, hours and verdicts, what each program reads
+MODEL is the folder of the model (plans.py says which). Written: crates/compare/data/files, runs, hours, verdicts and formulas, what each program reads
 and is to write (stdin, stdout, args and data in its crate), the plans of the course and their window file, crates/course/data, and the stored cases but those that
 stand for the front door alone, tests/stored and tests/files.
 docs/VECTORS.md has the format. The numbers expected are the model's. Where the papers name one, the script ends if the model has another.
@@ -16,6 +16,7 @@ import sys
 
 import levels
 import nested
+from formulas import REFUSED, formula_vectors
 from hours import hours_vectors
 from madeup import broken
 from office import DELETE, HALL, MENDED, RESTORE, RESTORED, RETRIED, SWALLOWED, TELL, WITHDRAWN
@@ -26,7 +27,7 @@ from plans import (CHOICE, COMPENSATION, HANDLER, PARALLEL, SEQUENCE, SKIP, THRO
 from sessions import MOST_FILE, Model, job_of, permitted, random_entries, real_job, session_of
 from shown import RECORD
 from steps import MADE_UP as MADE_UP_JOB, SESSION, TIMED_SESSION, answers_in, made_up_job, number_in, start_of, started, steps_in
-from stored import WINDOWS, chart_lines, inspect_lines, other_records, stored_cases, verdict_lines
+from stored import RULES, WINDOWS, chart_lines, inspect_lines, other_records, rule_lines, stored_cases, verdict_lines
 from verdicts import verdict_vectors
 
 SEED_PLANS, PLANS = 20071, 300
@@ -641,6 +642,19 @@ def write_course(cells, write):
     write(case + 'stdout', ''.join(f'{name}\n{verdict_lines(cells, file)}' for name, file in plans.items()).encode())
 
 
+def write_rules(cells, write):
+    """the stored cases of `rule`. The text of each stands whole in a file of its own, as a word of a line could not"""
+    for name, text in RULES.items():
+        case = f'tests/stored/rule-{name}/'
+        writes, tells = rule_lines(cells, text)
+        write(case + 'command', b'rule\n')
+        write(case + 'text', text)
+        write(case + 'stdout', writes.encode())
+        if tells:
+            write(case + 'stderr', tells.encode())
+            write(case + 'status', b'1\n')
+
+
 def told_of(vectors):
     """how many sessions a group has, how many entries of theirs get each number, and how many jobs, of which how many are real"""
     kinds = [[body for _, body in vectors if body[0] == kind] for kind in (SESSION, TIMED_SESSION, MADE_UP_JOB)]
@@ -717,11 +731,14 @@ def main():
                             ((name, file) for name, file, _ in levels.plans(cells)))
     verdicts = list(verdict_vectors(cells, judged + [withdrawn, retried] + with_nested, edges))
     write('crates/compare/data/verdicts', data_of(verdicts))
-    groups = {'files': vectors, 'runs': runs, 'hours': hours, 'verdicts': verdicts}
+    formulas = list(formula_vectors(cells))
+    write('crates/compare/data/formulas', data_of(formulas))
+    groups = {'files': vectors, 'runs': runs, 'hours': hours, 'verdicts': verdicts, 'formulas': formulas}
     write('crates/compare/stdout', ''.join(f'{group}: {len(of)} vectors, {len(of)} agree\n' for group, of in groups.items()).encode())
     write_differences(write, runs, hours)
     write_other_records(write, runs, hours, verdicts)
     write_course(cells, write)
+    write_rules(cells, write)
     # last, so that the lines of the others keep their numbers, which docs/GUIDE.md has
     course = judged + [('broken', whole([3], (), THIRD)), withdrawn, retried] + with_nested
     write_programs(cells, write, {name.lower(): file for name, file in course})
@@ -731,6 +748,9 @@ def main():
         print(f'{group}: {told_of(of)}')
     answers = [int.from_bytes(body[:4], 'little') // 65536 for _, body in verdicts]
     print(f'verdicts: {answers.count(0)} consistent, {answers.count(1)} violated, {answers.count(2)} refused')
+    numbers = [int.from_bytes(body[:4], 'little') for _, body in formulas]
+    refused = ', '.join(f'{n}: {numbers.count(REFUSED + n)}' for n in (14, 15))
+    print(f'formulas: {len(formulas)} vectors, {len(data_of(formulas))} bytes; {sum(n < REFUSED for n in numbers)} rules, refused by number {refused}')
 
 
 main()

@@ -63,7 +63,7 @@ def with_switches(module):
 def model_in(folder):
     """the model's module cells.py, which has all of oracle.py's names too, with after.py's reader of files: several undos of an action, and undos two deep;
     with both sides of a parallel beginning; with after.py's sets of a tree, its search for the plainest run of a tree that leaves a set, its codes of both sides of
-    a node as one, and its timed jobs"""
+    a node as one, its timed jobs, and its reader of rules as people type them"""
     sys.path.insert(0, folder)
     oracle, cells, after = (importlib.import_module(name) for name in ('oracle', 'cells', 'after'))
     with_switches(oracle)
@@ -83,6 +83,7 @@ def model_in(folder):
     oracle.parse = cells.parse = after.parse2
     oracle.plan_sets = cells.plan_sets = plan_sets
     cells.plainest, cells.join, cells.timed = after.lazy2, after.join, after.timed
+    cells.rule_text, cells.Bad = after.rule_text, after.Bad
     return cells
 
 

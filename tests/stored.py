@@ -8,6 +8,7 @@ from office import HALL
 from plans import number_of
 from sessions import Model, Timed, session_of, start_number
 from shown import shown_run
+from typed import MOST_TEXT, rule_of
 from windows import window, window_file
 
 FORMS = {'sequence': 'seq', 'parallel': 'par', 'choice': 'choice', 'compensation': 'comp', 'handler': 'handler'}
@@ -33,6 +34,15 @@ def run_lines(cells, file, text, windows=None):
     if number:
         return f'refused {number}\n'
     return session_of(Model(cells, file) if windows is None else Timed(cells, file, windows), text)
+
+
+def rule_lines(cells, given):
+    """what `postfix` writes, and what it tells on standard error. A newline at the very end of what it is given is not part of the text"""
+    text = given.removesuffix(b'\n')
+    if len(text) > MOST_TEXT:
+        return '', f'postfix: the text is too long: {MOST_TEXT:,} bytes at most\n'
+    answer = rule_of(cells, text)
+    return (f'refused {answer}\n' if isinstance(answer, int) else answer.hex(' ') + '\n'), ''
 
 
 def chart_lines(cells):
@@ -96,6 +106,25 @@ SESSIONS = {
     'restored': ('restored', b'0 1\n1 1\n9 2\n2 1\n5 2\n3 1\n', 'may end failed'),
     # as many entries as a run can have
     'largest': ('largest', b''.join(b'%d 1\n' % n for n in [0] + list(range(1, 63, 2))), 'may end succeeded'),
+}
+# Rules as people type them
+RULES = {
+    'example': b'not a or (b and c)',
+    # implies groups to the right and binds least; brackets in the place of blanks
+    'implies': b'not(a)and b implies c or d implies(e)',
+    # as long a rule as there can be, and one that is a byte longer
+    'longest': b'not ' * 126 + b'a',
+    'refused-15': b'not ' * 127 + b'a',
+    'refused-14': b'nota',
+    'empty': b'',
+    # what a shell could take for something else: an option, and what would come to sound rules, a format and escapes
+    'dash': b'-n',
+    'percent': b'a%.0s',
+    'backslash': b'a\\040or\\040b',
+    # the newline is no part of the text; were one added, the text would end with a newline, and be refused
+    'newline': b'a or b\n',
+    # a rule, if it were cut where the room ends
+    'too-long': b'a'.ljust(MOST_TEXT + 1),
 }
 # Window files beside the office's: one without a window, one whose window ends before it begins, and one longer than any, of which ten windows are sound.
 WINDOWS = {'none': b'', 'refused-23': window(0, 700, 600), 'too-long': window_file((a % 10, 480, 1020) for a in range(12))}

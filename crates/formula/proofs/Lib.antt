@@ -1,3 +1,4 @@
 pub mod Steps
 pub mod Chains
 pub mod Turning
+pub mod Answers

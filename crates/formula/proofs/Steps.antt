@@ -1,173 +1,166 @@
--- What the readers do, step by step, is what the readings say.
-use mathlib.Core.Path.{_≡_, refl, sym, ap, subst, _∙_}
+-- What the readers do, step by step, is what the readings say. A step goes on from what is read so far: it moves behind the next token (`moving`),
+-- writes a byte (`pushing`), or calls a reader (`taking`). A lemma for each rule of the readings, and named after it, puts the steps together;
+-- the readings that the code's tests rule out begin with another token. Behind a token every reader's rank is lower, so the readers end.
+use mathlib.Core.Path.{_≡_, sym, subst, _∙_}
 use mathlib.Core.List.{List, [], _∷_, _++_, append-assoc, append-nil}
-use Prim.Native.Nat.{ℕ, zero, suc, _+_, _-_, _≤_, _<_}
+use Prim.Native.Nat.{ℕ, suc, _+_, _-_, _*_, _≤_, _<_}
 use native.Mathlib.Omega.{arith}
 use lib.ListN.{length, drop, length-append}
-use Rattle.grammar.specs.Token.{Token, closing}
+use Rattle.grammar.specs.Token.{Token, implies, opening, and, or, notByte, byte}
 use Rattle.grammar.specs.Spelling.{Spells}
-use Rattle.grammar.specs.Next.{first, others}
-use Rattle.grammar.specs.Readings as r
-use Rattle.grammar.specs.Readings.{Reader, Reads}
-use Rattle.formula.specs.Readers.{nextOf, most, Holds, Moved, Pushed, After, Took}
+use Rattle.grammar.specs.Next.{number, first, others, wrong}
+use Rattle.grammar.specs.Readings as reads
+use Rattle.grammar.specs.Readings.{Reader, Reads, implication, implies-tail, chain, tail, negation, operand}
+use Rattle.tokens.specs.Tokens.{nextOf}
+use Rattle.tokens.specs.declared.Next.{Next}
+use Rattle.tokens.proofs.Tokens.{seen, next-forward, shorter}
+use Rattle.formula.specs.Readers.{Moved, Pushed, After, Took}
 use Rattle.formula.specs.declared.Reading.{Reading}
-use Rattle.tokens.proofs.Tokens.{seen, Seen, next-forward}
 
--- lists of postfix bytes, and their lengths
-room-left : (before p q : List ℕ) → length before + length (p ++ q) ≤ most → length before + length p ≤ most
-room-left before p q h = let e = length-append p q in omega arith
+-- the next token from a place on
+pub passes : (text : List ℕ) (at : ℕ) {t : Next} → t ≡ nextOf text at → at ≤ t .at
+passes text at e = rw e (next-forward text at)
 
-room-right : (before p q : List ℕ) → length before + length (p ++ q) ≤ most → length (before ++ p) + length q ≤ most
-room-right before p q h = let e = length-append p q in let f = length-append before p in omega arith
+pub shown : (text : List ℕ) (at : ℕ) {t : Next} {ts : List Token} → t ≡ nextOf text at → Spells (drop at text) ts → t .kind ≡ first ts
+shown text at e x = rw e (seen text at x .this)
 
-room-one : (before p : List ℕ) (b : ℕ) → length before + length (p ++ (b ∷ [])) ≤ most → length (before ++ p) < most
-room-one before p b h = let e = length-append p (b ∷ []) in let f = length-append before p in omega arith
+pub kept : (text : List ℕ) {r s : Reading} {b : ℕ} {t : Next} → Pushed r b s → t ≡ nextOf text (r .at) → t ≡ nextOf text (s .at)
+kept text pu e = rw (pu .stays) e
 
-holds-at : {o : Reading} {p q : List ℕ} → p ≡ q → Holds o p → Holds o q
-holds-at {o} e h = subst (λ (x : List ℕ). Holds o x) e h
+-- what is left of the text, and among readers at one place the tighter one
+abbrev pub level : Reader → ℕ
+level operand = 0
+level negation = 1
+level (chain and) = 2
+level (chain or) = 3
+level implication = 4
+level (tail o) = 0
+level implies-tail = 0
 
-regroup : (a q w : List ℕ) → (((a ++ q) ++ (0x80 ∷ [])) ++ w) ++ (0x82 ∷ []) ≡ a ++ (q ++ (0x80 ∷ (w ++ (0x82 ∷ []))))
-regroup a q w = simp append-assoc
+level-most : (l : Reader) → level l ≤ 4
+level-most operand = omega arith
+level-most negation = omega arith
+level-most (chain and) = omega arith
+level-most (chain or) = omega arith
+level-most implication = omega arith
+level-most (tail o) = omega arith
+level-most implies-tail = omega arith
 
-module _ (text : List ℕ) (from : Reading) where
-  abbrev Part : Reader → ℕ → Reading → Type 0
-  Part l d o = (ts rest : List Token) (p : List ℕ) → Spells (drop (from .at) text) ts → Reads l d ts p rest → After text from o p rest
+abbrev pub rank : Reader → List ℕ → Reading → ℕ
+rank l text r = (length text - r .at) * 5 + level l
 
+-- behind a token less is left, and each reader's rank is lower
+pub less-left : (text : List ℕ) (s : Reading) {r m : Reading} {t : Next} → t ≡ nextOf text (r .at) → t .kind < wrong → Moved r (t .at) m → m .at ≤ s .at
+    → length text - s .at < length text - r .at
+less-left text s {r} e some mv f = let h = rw e at (mv .place) in shorter text (r .at) (s .at) (rw e at some) (omega arith)
+
+pub lower-rank : (k l : Reader) (text : List ℕ) (from : Reading) {n : ℕ} {r m : Reading} {t : Next} → rank l text from ≡ n → from .at ≤ r .at
+    → t ≡ nextOf text (r .at) → t .kind < wrong → Moved r (t .at) m → rank k text m < n
+lower-rank k l text from {m = m} is f e some mv =
+    let s = less-left text m e some mv (omega arith) in
+    let h = level-most k in
+    omega arith
+
+-- steps from what is read so far
+pub standing : (text : List ℕ) (from : Reading) {ts : List Token} → Spells (drop (from .at) text) ts → After text from from [] ts
+standing text from x = record { left = x; holds = λ before h fits. rw (append-nil before) h }
+
+module _ {text : List ℕ} {from r s : Reading} {p : List ℕ} {ts : List Token} (a : After text from r p ts) where
+  pub moving : {t : Next} → t ≡ nextOf text (r .at) → Moved r (t .at) s → After text from s p (others ts)
+  moving e mv = record {
+    left = rw (mv .place, e) (seen text (r .at) (a .left) .next);
+    holds = λ before h fits. mv .holds (before ++ p) (a .holds before h fits);
+  }
+
+  joined : {q : List ℕ} {rest : List Token} → After text r s q rest → After text from s (p ++ q) rest
+  joined {q} b = record {
+    left = b .left;
+    holds = λ before h fits.
+        let e = length-append p q in
+        let f = length-append before p in
+        rw append-assoc at (b .holds (before ++ p) (a .holds before h (omega arith)) (omega arith));
+  }
+
+  pub pushing : {b : ℕ} → Pushed r b s → After text from s (p ++ (b ∷ [])) ts
+  pushing pu = joined (record { left = rw (pu .stays) (a .left); holds = λ before h fits. pu .holds before h (omega arith) })
+
+  pub taking : {l : Reader} {d : ℕ} {q : List ℕ} {rest : List Token} → Took l text d r s → Reads l d ts q rest → After text from s (p ++ q) rest
+  taking {q = q} {rest = rest} t y = joined (t .part ts rest q (a .left) y)
+
+-- what a reader promises of each part
+abbrev pub Parts : Reader → List ℕ → ℕ → Reading → Reading → Type 0
+Parts l text d from r = (ts rest : List Token) (p : List ℕ) → Spells (drop (from .at) text) ts → Reads l d ts p rest → After text from r p rest
+
+operand-first : {d : ℕ} {ts rest : List Token} {p : List ℕ} → Reads operand d ts p rest → first ts ≡ notByte → ⊥
+operand-first (reads.action h) e = omega arith
+operand-first (reads.bracket y) e = omega arith
+
+module _ {text : List ℕ} {from : Reading} {t : Next} (e : t ≡ nextOf text (from .at)) where
   -- a letter
-  letter-part : (d : ℕ) (m o : Reading) → nextOf text (from .at) .kind < 10 → Moved from (nextOf text (from .at) .at) m
-      → Pushed m (nextOf text (from .at) .kind) o → Part r.operand d o
-  letter-part d m o small mv pu ts rest p x (r.action {a = a} h) =
-      let s = seen text (from .at) x in
-      record {
-        left = rw (pu .stays, mv .place) (s .next);
-        holds = λ before k room. rw (← (s .this)) (pu .holds before (mv .holds before k) (omega arith));
-      }
-  letter-part d m o small mv pu ts rest p x (r.bracket y) = let s = seen text (from .at) x in absurd (let e = s .this in omega arith)
+  pub action : {d : ℕ} {m r : Reading} → t .kind < 10 → Moved from (t .at) m → Pushed m (t .kind) r → Took operand text d from r
+  action {d} {r = r} small mv pu = let f = passes text (from .at) e in record { forward = omega arith; part = parts d }
+    where
+      parts : (d : ℕ) → Parts operand text d from r
+      parts d ts rest p x (reads.action h) =
+          subst (λ (b : ℕ). After text from r (b ∷ []) rest) (shown text (from .at) e x) (pushing (moving (standing text from x) e mv) pu)
+      parts d ts rest p x (reads.bracket y) = absurd (let k = shown text (from .at) e x in omega arith)
 
-  pub letter : (d : ℕ) (m o : Reading) → nextOf text (from .at) .kind < 10 → Moved from (nextOf text (from .at) .at) m
-      → Pushed m (nextOf text (from .at) .kind) o → Took r.operand text d from o
-  letter d m o small mv pu = record { forward = rw (pu .stays, mv .place) (next-forward text (from .at)); part = letter-part d m o small mv pu }
-
-  -- neither a letter nor a bracket
-  nothing-part : (d : ℕ) → (10 ≤ nextOf text (from .at) .kind) → (nextOf text (from .at) .kind ≡ 0x84 → ⊥) → Part r.operand d from
-  nothing-part d large other ts rest p x (r.action h) = let s = seen text (from .at) x in absurd (let e = s .this in omega arith)
-  nothing-part d large other ts rest p x (r.bracket y) = let s = seen text (from .at) x in absurd (other (s .this))
-
-  pub nothing : (d : ℕ) → (10 ≤ nextOf text (from .at) .kind) → (nextOf text (from .at) .kind ≡ 0x84 → ⊥) → Took r.operand text d from from
-  nothing d large other = record { forward = omega arith; part = nothing-part d large other }
-
-  -- no bracket may be opened
-  deep-part : (d : ℕ) → (10 ≤ nextOf text (from .at) .kind) → d ≡ 0 → Part r.operand d from
-  deep-part d large e ts rest p x (r.action h) = let s = seen text (from .at) x in absurd (let k = s .this in omega arith)
-  deep-part d large e ts rest p x (r.bracket y) = absurd (omega arith)
-
-  pub too-deep : (d : ℕ) → (10 ≤ nextOf text (from .at) .kind) → d ≡ 0 → Took r.operand text d from from
-  too-deep d large e = record { forward = omega arith; part = deep-part d large e }
+  -- neither a letter nor a bracket that may be opened
+  pub no-operand : {d : ℕ} → 10 ≤ t .kind → (t .kind ≡ number opening → d ≡ 0) → Took operand text d from from
+  no-operand {d} large closed = record { forward = omega arith; part = parts d closed }
+    where
+      parts : (d : ℕ) → (t .kind ≡ number opening → d ≡ 0) → Parts operand text d from from
+      parts d closed ts rest p x (reads.action h) = absurd (let k = shown text (from .at) e x in omega arith)
+      parts d closed ts rest p x (reads.bracket y) = absurd (let k = closed (shown text (from .at) e x) in omega arith)
 
   -- a rule in brackets
-  inside-part : (d : ℕ) (m inner o : Reading) → (10 ≤ nextOf text (from .at) .kind) → Moved from (nextOf text (from .at) .at) m
-      → Took r.implication text (d - 1) m inner → Moved inner (nextOf text (inner .at) .at) o → Part r.operand d o
-  inside-part d m inner o large mv t mo ts rest p x (r.action h) = let s = seen text (from .at) x in absurd (let k = s .this in omega arith)
-  inside-part d m inner o large mv t mo ts rest p x (r.bracket {d = e} {ts = us} y) =
-      let s = seen text (from .at) x in
-      let a = t .part us _ p (rw (mv .place) (s .next)) (deeper e us rest p y) in
-      let c = seen text (inner .at) (a .left) in
-      record {
-        left = rw (mo .place) (c .next);
-        holds = λ before k room. mo .holds (before ++ p) (a .holds before (mv .holds before k) room);
-      }
+  pub bracket : {d : ℕ} {m i r : Reading} {u : Next} → 10 ≤ t .kind → Moved from (t .at) m → Took implication text (d - 1) m i
+      → u ≡ nextOf text (i .at) → Moved i (u .at) r → Took operand text d from r
+  bracket {d} {m} {i} {r} large mv took f mw =
+      let g = passes text (from .at) e in
+      let h = passes text (i .at) f in
+      record { forward = omega arith; part = parts d took }
     where
-      deeper : (e : ℕ) (us rest : List Token) (p : List ℕ) → Reads r.implication e us p (closing ∷ rest) → Reads r.implication (suc e - 1) us p (closing ∷ rest)
-      deeper e us rest p y = let k : suc e - 1 ≡ e = omega arith in rw k y
+      parts : (d : ℕ) → Took implication text (d - 1) m i → Parts operand text d from r
+      parts d took ts rest p x (reads.action h) = absurd (let k = shown text (from .at) e x in omega arith)
+      parts d took ts rest p x (reads.bracket {d = c} y) =
+          let k : suc c - 1 ≡ c = omega arith in
+          moving (taking (moving (standing text from x) e mv) (rw k at took) y) f mw
 
-  pub inside : (d : ℕ) (m inner o : Reading) → (10 ≤ nextOf text (from .at) .kind) → Moved from (nextOf text (from .at) .at) m
-      → Took r.implication text (d - 1) m inner → Moved inner (nextOf text (inner .at) .at) o → Took r.operand text d from o
-  inside d m inner o large mv t mo =
-      let f = next-forward text (from .at) in
-      let g = next-forward text (inner .at) in
-      let h = rw (mv .place) at (t .forward) in
-      record { forward = rw (mo .place) (omega arith); part = inside-part d m inner o large mv t mo }
-
-  -- no "not"
-  plain-part : (d : ℕ) (o : Reading) → (nextOf text (from .at) .kind ≡ 0x80 → ⊥) → Took r.operand text d from o → Part r.negation d o
-  plain-part d o other t ts rest p x (r.negated y) = let s = seen text (from .at) x in absurd (other (s .this))
-  plain-part d o other t ts rest p x (r.plain y) = t .part ts rest p x y
-
-  pub plain : (d : ℕ) (o : Reading) → (nextOf text (from .at) .kind ≡ 0x80 → ⊥) → Took r.operand text d from o → Took r.negation text d from o
-  plain d o other t = record { forward = t .forward; part = plain-part d o other t }
-
-  -- "not"
-  not-operand : {d : ℕ} {ts rest : List Token} {p : List ℕ} → Reads r.operand d ts p rest → first ts ≡ 0x80 → ⊥
-  not-operand (r.action h) e = omega arith
-  not-operand (r.bracket y) e = omega arith
-
-  negated-part : (d : ℕ) (m inner o : Reading) → nextOf text (from .at) .kind ≡ 0x80 → Moved from (nextOf text (from .at) .at) m
-      → Took r.negation text d m inner → Pushed inner 0x80 o → Part r.negation d o
-  negated-part d m inner o is mv t pu ts rest p x (r.negated {ts = us} {p = q} y) =
-      let s = seen text (from .at) x in
-      let a = t .part us rest q (rw (mv .place) (s .next)) y in
-      record {
-        left = rw (pu .stays) (a .left);
-        holds = λ before k room.
-            holds-at (append-assoc before q (0x80 ∷ []))
-            (pu .holds (before ++ q) (a .holds before (mv .holds before k) (room-left before q (0x80 ∷ []) room)) (room-one before q 0x80 room));
-      }
-  negated-part d m inner o is mv t pu ts rest p x (r.plain y) = let s = seen text (from .at) x in absurd (not-operand y (sym (s .this) ∙ is))
-
-  pub negated : (d : ℕ) (m inner o : Reading) → nextOf text (from .at) .kind ≡ 0x80 → Moved from (nextOf text (from .at) .at) m
-      → Took r.negation text d m inner → Pushed inner 0x80 o → Took r.negation text d from o
-  negated d m inner o is mv t pu =
-      let f = next-forward text (from .at) in
-      let h = rw (mv .place) at (t .forward) in
-      record { forward = rw (pu .stays) (omega arith); part = negated-part d m inner o is mv t pu }
-
-  -- no "implies" after the first part
-  alone-part : (d : ℕ) (left : Reading) → Took r.disjunction text d from left → (nextOf text (left .at) .kind ≡ 0x83 → ⊥) → Part r.implication d left
-  alone-part d left t other ts rest p x (r.then {p = q} y (r.no-implies h)) =
-      let a = t .part ts rest q x y in
-      record { left = a .left; holds = λ before k room. rw (append-nil q) (a .holds before k (rw (append-nil q) at room)) }
-  alone-part d left t other ts rest p x (r.then {us = us} {p = q} y (r.one-implies z)) =
-      let a = t .part ts us q x y in
-      let s = seen text (left .at) (a .left) in
-      absurd (other (s .this))
-
-  pub alone : (d : ℕ) (left : Reading) → Took r.disjunction text d from left → (nextOf text (left .at) .kind ≡ 0x83 → ⊥) → Took r.implication text d from left
-  alone d left t other = record { forward = t .forward; part = alone-part d left t other }
-
-  -- "implies"
-  implied-part : (d : ℕ) (left n m right o : Reading) → Took r.disjunction text d from left → nextOf text (left .at) .kind ≡ 0x83
-      → Pushed left 0x80 n → Moved n (nextOf text (left .at) .at) m → Took r.implication text d m right → Pushed right 0x82 o → Part r.implication d o
-  implied-part d left n m right o t is pn mv u po ts rest p x (r.then {p = q} y (r.no-implies h)) =
-      let a = t .part ts rest q x y in
-      let s = seen text (left .at) (a .left) in
-      absurd (h (sym (s .this) ∙ is))
-  implied-part d left n m right o t is pn mv u po ts rest p x (r.then {us = us} {p = q} y (r.one-implies {ts = vs} {p = w} z)) =
-      let a = t .part ts us q x y in
-      let s = seen text (left .at) (a .left) in
-      let b = u .part vs rest w (rw (mv .place) (s .next)) z in
-      record {
-        left = rw (po .stays) (b .left);
-        holds = λ before k room. joined before k room a b;
-      }
+  -- "not", or none
+  pub negated : {d : ℕ} {m i r : Reading} → t .kind ≡ notByte → Moved from (t .at) m → Took negation text d m i → Pushed i notByte r
+      → Took negation text d from r
+  negated {d} {r = r} is mv took pu = let f = passes text (from .at) e in record { forward = omega arith; part = parts }
     where
-      joined : (before : List ℕ) → Holds from before → length before + length (q ++ (0x80 ∷ (w ++ (0x82 ∷ [])))) ≤ most → After text from left q us
-          → After text m right w rest → Holds o (before ++ (q ++ (0x80 ∷ (w ++ (0x82 ∷ [])))))
-      joined before k room a b =
-          let e = length-append q (0x80 ∷ (w ++ (0x82 ∷ []))) in
-          let f = length-append w (0x82 ∷ []) in
-          let g = length-append before q in
-          let h = length-append (before ++ q) (0x80 ∷ []) in
-          let i = length-append ((before ++ q) ++ (0x80 ∷ [])) w in
-          holds-at (regroup before q w)
-          (po .holds (((before ++ q) ++ (0x80 ∷ [])) ++ w)
-          (b .holds ((before ++ q) ++ (0x80 ∷ []))
-          (mv .holds ((before ++ q) ++ (0x80 ∷ [])) (pn .holds (before ++ q) (a .holds before k (omega arith)) (omega arith))) (omega arith))
-          (omega arith))
+      parts : Parts negation text d from r
+      parts ts rest p x (reads.negated y) = pushing (taking (moving (standing text from x) e mv) took y) pu
+      parts ts rest p x (reads.plain y) = absurd (operand-first y (sym (shown text (from .at) e x) ∙ is))
 
-  pub implied : (d : ℕ) (left n m right o : Reading) → Took r.disjunction text d from left → nextOf text (left .at) .kind ≡ 0x83
-      → Pushed left 0x80 n → Moved n (nextOf text (left .at) .at) m → Took r.implication text d m right → Pushed right 0x82 o → Took r.implication text d from o
-  implied d left n m right o t is pn mv u po =
-      let f = next-forward text (left .at) in
-      let g = t .forward in
-      let h = rw (mv .place) at (u .forward) in
-      record { forward = rw (po .stays) (omega arith); part = implied-part d left n m right o t is pn mv u po }
+  pub plain : {d : ℕ} {r : Reading} → (t .kind ≡ notByte → ⊥) → Took operand text d from r → Took negation text d from r
+  plain {d} {r} other took = record { forward = took .forward; part = parts }
+    where
+      parts : Parts negation text d from r
+      parts ts rest p x (reads.negated y) = absurd (other (shown text (from .at) e x))
+      parts ts rest p x (reads.plain y) = took .part ts rest p x y
+
+  -- "implies", or none
+  pub implied : {d : ℕ} {n m i r : Reading} → t .kind ≡ number implies → Pushed from notByte n → Moved n (t .at) m → Took implication text d m i
+      → Pushed i (byte or) r → Took implies-tail text d from r
+  implied {d} {r = r} is pn mv took pu = let f = passes text (from .at) e in record { forward = omega arith; part = parts }
+    where
+      parts : Parts implies-tail text d from r
+      parts ts rest p x (reads.implied y) = pushing (taking (moving (pushing (standing text from x) pn) (kept text pn e) mv) took y) pu
+      parts ts rest p x (reads.not-implied h) = absurd (h (sym (shown text (from .at) e x) ∙ is))
+
+  pub not-implied : {d : ℕ} → (t .kind ≡ number implies → ⊥) → Took implies-tail text d from from
+  not-implied {d} other = record { forward = omega arith; part = parts }
+    where
+      parts : Parts implies-tail text d from from
+      parts ts rest p x (reads.implied y) = absurd (other (shown text (from .at) e x))
+      parts ts rest p x (reads.not-implied h) = standing text from x
+
+pub then : {text : List ℕ} {d : ℕ} {from m r : Reading} → Took (chain or) text d from m → Took implies-tail text d m r → Took implication text d from r
+then {text} {d} {from} {r = r} one others = record { forward = omega arith; part = parts }
+  where
+    parts : Parts implication text d from r
+    parts ts rest p x (reads.then y z) = taking (one .part ts _ _ x y) others z
