@@ -1,5 +1,5 @@
 -- The promises on what is answered to a text. The answer is one of three (`answered`), and each is another; what a text gets is told in Turning.
-use mathlib.Core.Path.{_≡_, refl, ap, subst, _∙_}
+use mathlib.Core.Path.{_≡_, refl, sym, ap, subst, _∙_}
 use mathlib.Core.Bool.{Bool, true, false, cond}
 use mathlib.Core.List.{List}
 use Prim.Native.Nat.{ℕ, _-_, _≤_, _<_}
@@ -22,6 +22,7 @@ data Answered (text : List ℕ) : Turned → Type 0 where
   short : (p : List ℕ) → Typed text p → length p ≤ room → Answered text (written p)
 
 answered : (text : List ℕ) → Answered text (answerOf text)
+unfolding answerOf
 answered text = go (typed-rules .decided text)
   where
     sized : (p : List ℕ) → Typed text p → (b : Bool) → leb (length p) room ≡ b → Answered text (cond b (written p) (refusal 15))
@@ -36,19 +37,22 @@ answered text = go (typed-rules .decided text)
 abbrev told : Turned → Answer
 told q = q .answer
 
+never : {m n : ℕ} → Refused m ≡ Postfix n → ⊥
+never e = let z : _≡_ {A = ℕ} 0 1 = cc in omega arith
+
 none-of : {text : List ℕ} {q : Turned} → Answered text q → told q ≡ Refused 14 → (p : List ℕ) → Typed text p → ⊥
 none-of (none-typed h) e = h
 none-of (long p t h) e = absurd (let z : _≡_ {A = ℕ} 15 14 = cc in omega arith)
-none-of (short p t h) e = absurd (let z : _≡_ {A = ℕ} 0 1 = cc in omega arith)
+none-of (short p t h) e = absurd (never (sym e))
 
 too-long-of : {text : List ℕ} {q : Turned} → Answered text q → told q ≡ Refused 15 → TooLong text
 too-long-of (none-typed h) e = absurd (let z : _≡_ {A = ℕ} 14 15 = cc in omega arith)
 too-long-of (long p t h) e = record { postfix = p; typed = t; long = h }
-too-long-of (short p t h) e = absurd (let z : _≡_ {A = ℕ} 0 1 = cc in omega arith)
+too-long-of (short p t h) e = absurd (never (sym e))
 
 typed-of : {text : List ℕ} {q : Turned} (n : ℕ) → Answered text q → told q ≡ Postfix n → Typed text (take n (q .bytes))
-typed-of n (none-typed h) e = absurd (let z : _≡_ {A = ℕ} 0 1 = cc in omega arith)
-typed-of n (long p t h) e = absurd (let z : _≡_ {A = ℕ} 0 1 = cc in omega arith)
+typed-of n (none-typed h) e = absurd (never e)
+typed-of n (long p t h) e = absurd (never e)
 typed-of n (short p t h) e = rw (take-at p (replicate (room - length p) 0) n (cc)) t
 
 pub answers : Answers

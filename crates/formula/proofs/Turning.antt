@@ -22,6 +22,7 @@ use Rattle.formula.specs.declared.Turned.{Turned}
 
 -- the answer to a text
 pub none : (text : List ℕ) → ((p : List ℕ) → Typed text p → ⊥) → answerOf text ≡ refusal 14
+unfolding answerOf
 none text h = go (typed-rules .decided text)
   where
     go : (d : Decision text) → answerFor d ≡ refusal 14
@@ -29,6 +30,7 @@ none text h = go (typed-rules .decided text)
     go (outside k) = refl
 
 some : (text p : List ℕ) → Typed text p → answerOf text ≡ cond (leb (length p) room) (written p) (refusal 15)
+unfolding answerOf
 some text p t = go (typed-rules .decided text)
   where
     go : (d : Decision text) → answerFor d ≡ cond (leb (length p) room) (written p) (refusal 15)
@@ -43,6 +45,7 @@ too-long text p t h = some text p t ∙ rw (lt-leb (length p) room h)
 
 -- what the count says
 pub becomes : (text : List ℕ) (n : ℕ) → countOf text ≡ Bytes n → Becomes text n
+unfolding countOf
 becomes text n = go (typed-rules .decided text)
   where
     go : (d : Decision text) → countFor d ≡ Bytes n → Becomes text n
@@ -50,6 +53,7 @@ becomes text n = go (typed-rules .decided text)
     go (outside k) e = absurd (let z : _≡_ {A = ℕ} 0 1 = cc in omega arith)
 
 pub is-outside : (text : List ℕ) → countOf text ≡ Outside → (p : List ℕ) → Typed text p → ⊥
+unfolding countOf
 is-outside text = go (typed-rules .decided text)
   where
     go : (d : Decision text) → countFor d ≡ Outside → (p : List ℕ) → Typed text p → ⊥

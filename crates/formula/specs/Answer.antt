@@ -11,7 +11,6 @@ use lib.ListN.{length, take, replicate}
 use Rattle.bodies.specs.Rule.{Rule}
 use Rattle.grammar.specs.Typed.{Typed, Decision, inside, outside}
 use Rattle.grammar.proofs.TypedRules.{typed-rules}
-use Rattle.formula.specs.declared.Answer.{Answer}
 use Rattle.formula.specs.declared.Answer.the-variants.{Postfix, Refused}
 use Rattle.formula.specs.declared.Turned.{Turned}
 
@@ -30,7 +29,7 @@ answerFor (outside h) = refusal 14
 answerFor (inside p t) = cond (leb (length p) room) (written p) (refusal 15)
 
 -- A text is a typed rule or is none, and as one it has one postfix list: `typed-rules`.
-abbrev pub answerOf : List ℕ → Turned
+unfoldable pub answerOf : List ℕ → Turned
 answerOf text = answerFor (typed-rules .decided text)
 
 -- The text is a rule whose postfix list has n bytes.

@@ -9,6 +9,7 @@ use Rattle.recognizer.specs.Count.{countFor, countOf}
 use Rattle.recognizer.specs.declared.Count.the-variants.{Outside, Bytes}
 
 pub none-counted : (text : List ℕ) → ((p : List ℕ) → Typed text p → ⊥) → Outside ≡ countOf text
+unfolding countOf
 none-counted text h = go (typed-rules .decided text)
   where
     go : (d : Decision text) → Outside ≡ countFor d
@@ -16,6 +17,7 @@ none-counted text h = go (typed-rules .decided text)
     go (outside k) = refl
 
 pub so-many-counted : (text p : List ℕ) (n : ℕ) → Typed text p → length p ≡ n → Bytes n ≡ countOf text
+unfolding countOf
 so-many-counted text p n t e = go (typed-rules .decided text)
   where
     go : (d : Decision text) → Bytes n ≡ countFor d

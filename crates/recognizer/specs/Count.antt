@@ -12,5 +12,5 @@ countFor (inside p t) = Bytes (length p)
 countFor (outside h) = Outside
 
 -- A text is a typed rule or is none, and as one it has one postfix list: `typed-rules`.
-abbrev pub countOf : List ℕ → Count
+unfoldable pub countOf : List ℕ → Count
 countOf text = countFor (typed-rules .decided text)

@@ -62,16 +62,11 @@ bracket-meets n =
     (λ c. steps.no-operand (c .before .before .before .before .next-token .ensures) (c .before .before .if1 .left) (λ k. absurd (c .if2 .taken k)))
     (λ c. steps.no-operand (c .before .before .before .before .before .next-token .ensures) (c .before .before .before .if1 .left) (λ k. c .if3 .taken))
     (λ c κs. tt)
-    (λ c. let d = c .before .if3 .left in omega arith)
-    (λ c κs.
-    let b = c .before .before .before .before .before .before in
-    let k = c .before .before .if2 .left in
-    (steps.lower-rank reader.implication reader.operand _ (b .before .before .args .from) (b .before .before .pre .0) (omega arith) (b .next-token .ensures) (omega arith) (c .moved2 .ensures), tt))
+    (λ c. omega arith)
+    (λ c κs. (steps.lower-rank reader.implication reader.operand _ (c .before .before .before .before .before .before .before .before .args .from) (c .before .before .before .before .before .before .before .before .pre .0) (omega arith) (c .before .before .before .before .before .before .next-token .ensures) (omega arith) (c .moved2 .ensures), tt))
     (λ c κs. tt)
     (λ c κs. tt)
-    (λ c.
-    let b = c .before .before .before .before .before .before .before in
-    steps.bracket (b .before .before .next-token .ensures) (b .if1 .left) (c .before .before .before .moved2 .ensures) (c .before .before .implication .ensures) (c .before .next-token2 .ensures) (c .moved3 .ensures))
+    (λ c. steps.bracket (c .before .before .before .before .before .before .before .before .before .next-token .ensures) (c .before .before .before .before .before .before .before .if1 .left) (c .before .before .before .moved2 .ensures) (c .before .before .implication .ensures) (c .before .next-token2 .ensures) (c .moved3 .ensures))
 
 -- "not", or a letter or a bracket
 abbrev negation-claims : ℕ → negation-lts.Claims
@@ -81,17 +76,12 @@ negation-meets : {M : Type 1} (n : ℕ) → negation-lts.Closed (negation-claims
 negation-meets n =
     negation-lts.spec (negation-claims n) (at-rank reader.negation negation.Pre n) negation.Post
     (λ c κs. tt)
-    (λ c κs. let p = c .before .before .before .before .pre .0 in (omega arith, tt))
+    (λ c κs. (omega arith, tt))
     (λ c. steps.plain (c .before .before .before .next-token .ensures) (c .before .if1 .taken) (c .bracket .ensures))
     (λ c κs. tt)
-    (λ c κs.
-    let b = c .before .before .before in
-    let k = c .before .if1 .left in
-    (steps.lower-rank reader.negation reader.negation _ (b .before .before .args .from) (b .before .before .pre .0) (omega arith) (b .next-token .ensures) (omega arith) (c .moved .ensures), tt))
+    (λ c κs. (steps.lower-rank reader.negation reader.negation _ (c .before .before .before .before .before .args .from) (c .before .before .before .before .before .pre .0) (omega arith) (c .before .before .before .next-token .ensures) (omega arith) (c .moved .ensures), tt))
     (λ c κs. tt)
-    (λ c.
-    let b = c .before .before .before in
-    steps.negated (b .before .before .next-token .ensures) (b .if1 .left) (c .before .before .moved .ensures) (c .before .negation .ensures) (c .push .ensures))
+    (λ c. steps.negated (c .before .before .before .before .before .next-token .ensures) (c .before .before .before .if1 .left) (c .before .before .moved .ensures) (c .before .negation .ensures) (c .push .ensures))
 
 -- parts joined by "and", and chains of these joined by "or"
 abbrev conjunction-claims : ℕ → conjunction-lts.Claims
@@ -100,21 +90,15 @@ conjunction-claims n = (below reader.negation negation.Pre n, negation.Post, nex
 conjunction-meets : {M : Type 1} (n : ℕ) → conjunction-lts.Closed (conjunction-claims n) (at-rank (reader.chain and) conjunction.Pre n) conjunction.Post M
 conjunction-meets n =
     conjunction-lts.spec (conjunction-claims n) (at-rank (reader.chain and) conjunction.Pre n) conjunction.Post (turns and) left
-    (λ c κs. let p = c .before .pre .0 in (omega arith, tt))
+    (λ c κs. (omega arith, tt))
     (λ c κs. tt)
     (λ c. chains.first-turn (c .next-token .ensures))
     (λ c κs. tt)
-    (λ c κs.
-    let b = c .before .before .before in
-    (chains.lower-rank-again (b .loop .inv) (b .before .before .before .before .pre .0) (b .before .before .negation .ensures) (c .before .if1 .taken) (c .moved .ensures), tt))
+    (λ c κs. (chains.lower-rank-again (c .before .before .before .loop .inv) (c .before .before .before .before .before .before .before .pre .0) (c .before .before .before .before .before .negation .ensures) (c .before .if1 .taken) (c .moved .ensures), tt))
     (λ c κs. tt)
     (λ c κs. tt)
-    (λ c.
-    let b = c .before .before .before .before in
-    chains.less-left-again (b .before .before .loop .inv) (b .if1 .taken) (c .before .before .before .moved .ensures) (c .before .before .negation2 .ensures) (c .before .push .ensures))
-    (λ c.
-    let b = c .before .before .before .before in
-    chains.next-turn (b .before .before .loop .inv) (b .if1 .taken) (c .before .before .before .moved .ensures) (c .before .before .negation2 .ensures) (c .before .push .ensures) (c .next-token2 .ensures))
+    (λ c. chains.less-left-again (c .before .before .before .before .before .before .loop .inv) (c .before .before .before .before .if1 .taken) (c .before .before .before .moved .ensures) (c .before .before .negation2 .ensures) (c .before .push .ensures))
+    (λ c. chains.next-turn (c .before .before .before .before .before .before .loop .inv) (c .before .before .before .before .if1 .taken) (c .before .before .before .moved .ensures) (c .before .before .negation2 .ensures) (c .before .push .ensures) (c .next-token2 .ensures))
     (λ c. chains.last-turn (c .before .before .loop .inv) (c .before .before .before .before .negation .ensures) (c .if1 .left))
 
 abbrev disjunction-claims : ℕ → disjunction-lts.Claims
@@ -123,21 +107,15 @@ disjunction-claims n = (below (reader.chain and) conjunction.Pre n, conjunction.
 disjunction-meets : {M : Type 1} (n : ℕ) → disjunction-lts.Closed (disjunction-claims n) (at-rank (reader.chain or) disjunction.Pre n) disjunction.Post M
 disjunction-meets n =
     disjunction-lts.spec (disjunction-claims n) (at-rank (reader.chain or) disjunction.Pre n) disjunction.Post (turns or) left
-    (λ c κs. let p = c .before .pre .0 in (omega arith, tt))
+    (λ c κs. (omega arith, tt))
     (λ c κs. tt)
     (λ c. chains.first-turn (c .next-token .ensures))
     (λ c κs. tt)
-    (λ c κs.
-    let b = c .before .before .before in
-    (chains.lower-rank-again (b .loop .inv) (b .before .before .before .before .pre .0) (b .before .before .conjunction .ensures) (c .before .if1 .taken) (c .moved .ensures), tt))
+    (λ c κs. (chains.lower-rank-again (c .before .before .before .loop .inv) (c .before .before .before .before .before .before .before .pre .0) (c .before .before .before .before .before .conjunction .ensures) (c .before .if1 .taken) (c .moved .ensures), tt))
     (λ c κs. tt)
     (λ c κs. tt)
-    (λ c.
-    let b = c .before .before .before .before in
-    chains.less-left-again (b .before .before .loop .inv) (b .if1 .taken) (c .before .before .before .moved .ensures) (c .before .before .conjunction2 .ensures) (c .before .push .ensures))
-    (λ c.
-    let b = c .before .before .before .before in
-    chains.next-turn (b .before .before .loop .inv) (b .if1 .taken) (c .before .before .before .moved .ensures) (c .before .before .conjunction2 .ensures) (c .before .push .ensures) (c .next-token2 .ensures))
+    (λ c. chains.less-left-again (c .before .before .before .before .before .before .loop .inv) (c .before .before .before .before .if1 .taken) (c .before .before .before .moved .ensures) (c .before .before .conjunction2 .ensures) (c .before .push .ensures))
+    (λ c. chains.next-turn (c .before .before .before .before .before .before .loop .inv) (c .before .before .before .before .if1 .taken) (c .before .before .before .moved .ensures) (c .before .before .conjunction2 .ensures) (c .before .push .ensures) (c .next-token2 .ensures))
     (λ c. chains.last-turn (c .before .before .loop .inv) (c .before .before .before .before .conjunction .ensures) (c .if1 .left))
 
 -- a chain, with or without "implies" after it
@@ -147,24 +125,20 @@ implication-claims n = (below (reader.chain or) disjunction.Pre n, disjunction.P
 implication-meets : {M : Type 1} (n : ℕ) → implication-lts.Closed (implication-claims n) (at-rank reader.implication implication.Pre n) implication.Post M
 implication-meets n =
     implication-lts.spec (implication-claims n) (at-rank reader.implication implication.Pre n) implication.Post
-    (λ c κs. let p = c .before .pre .0 in (omega arith, tt))
+    (λ c κs. (omega arith, tt))
     (λ c κs. tt)
     (λ c. steps.then (c .before .before .before .disjunction .ensures) (steps.not-implied (c .before .before .next-token .ensures) (c .if1 .taken)))
     (λ c κs. tt)
     (λ c κs. tt)
-    (λ c κs.
-    let b = c .before .before .before .before in
-    let k = c .before .before .if1 .left in
-    let d = b .before .disjunction .ensures .forward in
-    let h = c .before .push .ensures .stays in
-    (steps.lower-rank reader.implication reader.implication _ (b .before .before .before .args .from) (b .before .before .before .pre .0) (omega arith) (steps.kept _ (c .before .push .ensures) (b .next-token .ensures)) (omega arith) (c .moved .ensures), tt))
+    (λ c κs. (steps.lower-rank reader.implication reader.implication _ (c .before .before .before .before .before .before .before .args .from) (c .before .before .before .before .before .before .before .pre .0) (omega arith) (steps.kept _ (c .before .push .ensures) (c .before .before .before .before .next-token .ensures)) (omega arith) (c .moved .ensures), tt))
     (λ c κs. tt)
-    (λ c.
-    let b = c .before .before .before .before in
-    steps.then (b .before .before .before .disjunction .ensures)
-    (steps.implied (b .before .before .next-token .ensures) (b .if1 .left) (c .before .before .before .push .ensures) (c .before .before .moved .ensures) (c .before .implication .ensures) (c .push2 .ensures)))
+    (λ c. steps.then (c .before .before .before .before .before .before .before .disjunction .ensures) (steps.implied (c .before .before .before .before .before .before .next-token .ensures) (c .before .before .before .before .if1 .left) (c .before .before .before .push .ensures) (c .before .before .moved .ensures) (c .before .implication .ensures) (c .push2 .ensures)))
 
 pub +bracket+conjunction+disjunction+implication+negation-spec : {M : Type 1} → statement M
 +bracket+conjunction+disjunction+implication+negation-spec =
     close (ranked reader.operand) (ranked (reader.chain and)) (ranked (reader.chain or)) (ranked reader.implication) (ranked reader.negation)
-    bracket-meets conjunction-meets disjunction-meets implication-meets negation-meets
+    bracket-meets
+    conjunction-meets
+    disjunction-meets
+    implication-meets
+    negation-meets

@@ -1,0 +1,37 @@
+-- `postfix::reply_to` meets its contract: by how long the text is.
+use mathlib.Core.Path.{sym, ap, _∙_}
+use native.Mathlib.Omega.{arith}
+use lib.Seq.{length-take-le}
+use borrow.Author.Needs.{needs}
+use borrow.Author.Tests.{lt-ltb, le-ltb}
+use Rattle.postfix.specs.Reply.{longest}
+use Rattle.postfix.proofs.reply_to.Statement.{statement}
+use Rattle.postfix.proofs.reply_to.Tie as tie
+
+typed-length-requires : tie.Need-typed-length-requires
+typed-length-requires c κs = search needs
+
+empty-requires : tie.Need-empty-requires
+empty-requires c κs = search needs
+
+returns : tie.Need-returns
+returns c =
+    let n = c .before .before .typed-length .ensures .0 in
+    rw (lt-ltb longest _ (rw n at (c .before .if1 .taken)), c .empty .ensures)
+
+slice-aggregate-rule-of : tie.Need-slice-aggregate-rule-of
+slice-aggregate-rule-of c = sym (length-take-le _ _ (c .before .before .typed-length .ensures .1))
+
+rule-of-requires : tie.Need-rule-of-requires
+rule-of-requires c κs = search needs
+
+line-of-requires : tie.Need-line-of-requires
+line-of-requires c κs = search needs
+
+returns-2 : tie.Need-returns-2
+returns-2 c =
+    let n = c .before .before .before .before .typed-length .ensures .0 in
+    rw (le-ltb longest _ (rw n at (c .before .before .before .if1 .left)), c .line-of .ensures, c .before .rule-of .ensures, n)
+
+pub reply-to-spec : {M : Type 1} → statement M
+reply-to-spec = tie.close (tie.spec typed-length-requires empty-requires returns slice-aggregate-rule-of rule-of-requires line-of-requires returns-2)
