@@ -84,6 +84,7 @@ pub examples : Examples
 unfolding spelling tokenNumber wordNumber stands parted blanks passing
 examples = record {
   request = typed (ascii "not a or (b and c)") _ _ refl (no-implies (joined (tight (negated a)) (single (plain (bracket (no-implies (single (joined (single b) c))))))));
+  swallowed = typed (ascii "not d or b") _ _ refl (no-implies (joined (tight (negated (one 3 (omega arith)))) (single b)));
   not-and = typed (ascii "not a and b") _ _ refl (no-implies (single (joined (single (negated a)) b)));
   and-or = typed (ascii "a and b or c") _ _ refl (no-implies (joined (single (joined (single a) b)) (single c)));
   or-and = typed (ascii "a or b and c") _ _ refl (no-implies (joined (tight a) (joined (single b) c)));
@@ -95,6 +96,7 @@ examples = record {
   and-bracket = typed (ascii " a and(j) ") _ _ refl (no-implies (single (joined (single a) (plain (bracket (no-implies (tight (one 9 (omega arith)))))))));
   nota = λ p t. never-wrong (ascii "nota") (t .tokens) refl (t .spelled);
   two-letters = outside (ascii "a b") (letter 0 ∷ letter 1 ∷ []) refl refl;
+  newline = λ p t. never-wrong (ascii "a\n") (t .tokens) refl (t .spelled);
   letter-k = λ p t. never-wrong (ascii "k") (t .tokens) refl (t .spelled);
   capital = λ p t. never-wrong (ascii "A") (t .tokens) refl (t .spelled);
   sixteen = typed (bracketed 16) (deep 16) (0 ∷ []) refl (brackets 16);

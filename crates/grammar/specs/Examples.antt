@@ -14,6 +14,8 @@ bracketed n = replicate n 40 ++ (97 ∷ replicate n 41)
 
 pub record Examples : Type 0 where
   pub request : Typed (ascii "not a or (b and c)") (0 ∷ 0x80 ∷ 1 ∷ 2 ∷ 0x81 ∷ 0x82 ∷ [])
+  -- "not filed, or stored": the rule of the plan that passed a check of its forward steps only
+  pub swallowed : Typed (ascii "not d or b") (3 ∷ 0x80 ∷ 1 ∷ 0x82 ∷ [])
   -- "Not binds tightest, then and, or, implies"
   pub not-and : Typed (ascii "not a and b") (0 ∷ 0x80 ∷ 1 ∷ 0x81 ∷ [])
   pub and-or : Typed (ascii "a and b or c") (0 ∷ 1 ∷ 0x81 ∷ 2 ∷ 0x82 ∷ [])
@@ -28,6 +30,8 @@ pub record Examples : Type 0 where
   pub and-bracket : Typed (ascii " a and(j) ") (0 ∷ 9 ∷ 0x81 ∷ [])
   pub nota : Outside (ascii "nota")
   pub two-letters : Outside (ascii "a b")
+  -- "blanks (byte 32)"
+  pub newline : Outside (ascii "a\n")
   -- "Actions are the letters a to j", "all lower case"
   pub letter-k : Outside (ascii "k")
   pub capital : Outside (ascii "A")

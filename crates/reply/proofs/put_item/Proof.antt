@@ -1,10 +1,10 @@
--- `postfix::put_item` meets its contract: by the test whether it is the first.
+-- `reply::put_item` meets its contract: by the test whether it is the first.
 use mathlib.Core.Path.{_∙_}
 use borrow.Author.Needs.{needs}
 use borrow.Author.Tests.{eq-eqb, ne-eqb}
 use Rattle.text.proofs.Ends.{appended-first}
-use Rattle.postfix.proofs.put_item.Statement.{statement}
-use Rattle.postfix.proofs.put_item.Tie as tie
+use Rattle.reply.proofs.put_item.Statement.{statement}
+use Rattle.reply.proofs.put_item.Tie as tie
 
 put-hex-requires : tie.Need-put-hex-requires
 put-hex-requires c κs = search needs

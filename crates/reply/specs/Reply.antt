@@ -8,8 +8,8 @@ use lib.Dec.{ltb, eqb}
 use lib.ListN.{length, getD, take}
 use Rattle.text.specs.Text.{empty, textOf}
 use Rattle.formula.specs.Answer.{answerOf}
-use Rattle.postfix.specs.Line.{lineFor}
-use Rattle.postfix.specs.declared.Reply.{Reply}
+use Rattle.reply.specs.Line.{lineFor}
+use Rattle.reply.specs.declared.Reply.{Reply}
 
 abbrev pub longest : ℕ
 longest = 65536

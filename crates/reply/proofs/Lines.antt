@@ -15,7 +15,7 @@ use Rattle.text.proofs.Ends.{each-few, lined, numbered-short, put-alone}
 use Rattle.formula.specs.declared.Answer.{Answer}
 use Rattle.formula.specs.declared.Answer.the-variants.{Postfix, Refused}
 use Rattle.formula.specs.declared.Turned.{Turned}
-use Rattle.postfix.specs.Line.{item, itemAt, lineWith, lineFor}
+use Rattle.reply.specs.Line.{item, itemAt, lineWith, lineFor}
 
 pub two : (t : Text) (a b : ℕ) → pushed (pushed t a) b ≡ appended t (a ∷ b ∷ [])
 unfolding appended

@@ -11,8 +11,8 @@ use lib.Seq.{length-take-le, take-all}
 use borrow.Author.Tests.{lt-ltb, leb-true, leb-false}
 use Rattle.blocks.proofs.Bounded.{decide}
 use Rattle.text.specs.Text.{empty}
-use Rattle.postfix.specs.Reply.{longest, typedLength, replyTo, ReadsEnough}
-use Rattle.postfix.specs.declared.Reply.{Reply}
+use Rattle.reply.specs.Reply.{longest, typedLength, replyTo, ReadsEnough}
+use Rattle.reply.specs.declared.Reply.{Reply}
 
 pub empty-length : (input : List ℕ) → length input ≡ 0 → 0 ≡ typedLength input
 empty-length [] e = refl

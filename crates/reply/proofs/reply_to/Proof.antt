@@ -1,12 +1,12 @@
--- `postfix::reply_to` meets its contract: by how long the text is.
+-- `reply::reply_to` meets its contract: by how long the text is.
 use mathlib.Core.Path.{sym, ap, _∙_}
 use native.Mathlib.Omega.{arith}
 use lib.Seq.{length-take-le}
 use borrow.Author.Needs.{needs}
 use borrow.Author.Tests.{lt-ltb, le-ltb}
-use Rattle.postfix.specs.Reply.{longest}
-use Rattle.postfix.proofs.reply_to.Statement.{statement}
-use Rattle.postfix.proofs.reply_to.Tie as tie
+use Rattle.reply.specs.Reply.{longest}
+use Rattle.reply.proofs.reply_to.Statement.{statement}
+use Rattle.reply.proofs.reply_to.Tie as tie
 
 typed-length-requires : tie.Need-typed-length-requires
 typed-length-requires c κs = search needs

@@ -1,9 +1,9 @@
--- `postfix::put_hex` meets its contract.
+-- `reply::put_hex` meets its contract.
 use native.Mathlib.Omega.{arith}
 use borrow.Author.Needs.{needs}
-use Rattle.postfix.proofs.Lines.{two}
-use Rattle.postfix.proofs.put_hex.Statement.{statement}
-use Rattle.postfix.proofs.put_hex.Tie as tie
+use Rattle.reply.proofs.Lines.{two}
+use Rattle.reply.proofs.put_hex.Statement.{statement}
+use Rattle.reply.proofs.put_hex.Tie as tie
 
 digit-requires : tie.Need-digit-requires
 digit-requires c κs = omega arith

@@ -1,8 +1,8 @@
--- `postfix::digit` meets its contract.
+-- `reply::digit` meets its contract.
 use borrow.Author.Needs.{needs}
 use borrow.Author.Tests.{lt-ltb, le-ltb}
-use Rattle.postfix.proofs.digit.Statement.{statement}
-use Rattle.postfix.proofs.digit.Tie as tie
+use Rattle.reply.proofs.digit.Statement.{statement}
+use Rattle.reply.proofs.digit.Tie as tie
 
 add-result : tie.Need-add-result
 add-result c = search needs

@@ -1,4 +1,4 @@
--- `postfix::put_items` meets its contract. The invariant: what is left of the bytes, put into the text so far, gives what all of them give.
+-- `reply::put_items` meets its contract. The invariant: what is left of the bytes, put into the text so far, gives what all of them give.
 use mathlib.Core.Path.{_≡_, sym, _∙_}
 use Prim.Native.Nat.{_-_, _≤_, min}
 use native.Mathlib.Omega.{arith}
@@ -6,9 +6,9 @@ use borrow.Author.Needs.{needs}
 use Rattle.text.specs.Lines.{each}
 use Rattle.text.specs.Text.{appended}
 use Rattle.text.proofs.Ends.{each-step, each-end}
-use Rattle.postfix.specs.Line.{itemAt}
-use Rattle.postfix.proofs.put_items.Statement.{statement}
-use Rattle.postfix.proofs.put_items.Tie as tie
+use Rattle.reply.specs.Line.{itemAt}
+use Rattle.reply.proofs.put_items.Statement.{statement}
+use Rattle.reply.proofs.put_items.Tie as tie
 
 abbrev Inv-loop : tie.InvT-loop
 Inv-loop n bytes grown₀ i₀ grown i = (i ≤ 127) × (appended grown₀ (each (itemAt bytes) 0 (min n 127)) ≡ appended grown (each (itemAt bytes) i (min n 127 - i)))

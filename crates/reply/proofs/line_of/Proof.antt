@@ -1,12 +1,12 @@
--- `postfix::line_of` meets its contract: each line has room in a text.
+-- `reply::line_of` meets its contract: each line has room in a text.
 use mathlib.Core.List.{[]}
 use borrow.Author.Needs.{needs}
 use Rattle.text.proofs.Ends.{put-alone}
 use Rattle.formula.specs.declared.Answer.the-variants.{Refused}
-use Rattle.postfix.specs.Line.{lineWith}
-use Rattle.postfix.proofs.Lines.{line-put, line-short}
-use Rattle.postfix.proofs.line_of.Statement.{statement}
-use Rattle.postfix.proofs.line_of.Tie as tie
+use Rattle.reply.specs.Line.{lineWith}
+use Rattle.reply.proofs.Lines.{line-put, line-short}
+use Rattle.reply.proofs.line_of.Statement.{statement}
+use Rattle.reply.proofs.line_of.Tie as tie
 
 enum-known-answer : tie.Need-enum-known-answer
 enum-known-answer c = search needs

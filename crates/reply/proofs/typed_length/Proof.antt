@@ -1,10 +1,10 @@
--- `postfix::typed_length` meets its contract: by the last byte.
+-- `reply::typed_length` meets its contract: by the last byte.
 use borrow.Author.Needs.{needs}
 use native.Mathlib.Omega.{arith}
 use borrow.Author.Tests.{eq-eqb, ne-eqb}
-use Rattle.postfix.proofs.Replies.{empty-length}
-use Rattle.postfix.proofs.typed_length.Statement.{statement}
-use Rattle.postfix.proofs.typed_length.Tie as tie
+use Rattle.reply.proofs.Replies.{empty-length}
+use Rattle.reply.proofs.typed_length.Statement.{statement}
+use Rattle.reply.proofs.typed_length.Tie as tie
 
 returns : tie.Need-returns
 returns c = (empty-length (c .before .args .input .now) (c .if1 .taken), omega arith)
