@@ -19,7 +19,7 @@ import nested
 from formulas import REFUSED, formula_vectors
 from hours import hours_vectors
 from madeup import broken
-from office import DELETE, HALL, MENDED, RESTORE, RESTORED, RETRIED, SWALLOWED, TELL, WITHDRAWN
+from office import DELETE, HALL, MENDED, RESTORE, RESTORED, RETRIED, SWALLOWED, TELL, TYPED, WITHDRAWN
 from parallels import every_run, every_set
 from plainest import every_set_left
 from plans import (CHOICE, COMPENSATION, HANDLER, PARALLEL, SEQUENCE, SKIP, THROW, TRIES, TWENTY_ONE, block, blocks_of, damaged, deepest, flat, model_in, named,
@@ -27,7 +27,8 @@ from plans import (CHOICE, COMPENSATION, HANDLER, PARALLEL, SEQUENCE, SKIP, THRO
 from sessions import MOST_FILE, Model, job_of, permitted, random_entries, real_job, session_of
 from shown import RECORD
 from steps import MADE_UP as MADE_UP_JOB, SESSION, TIMED_SESSION, answers_in, made_up_job, number_in, start_of, started, steps_in
-from stored import RULES, WINDOWS, chart_lines, inspect_lines, other_records, rule_lines, stored_cases, verdict_lines
+from stored import RULE_AT, RULES, WINDOWS, chart_lines, inspect_lines, other_records, other_rules, rule_lines, stored_cases, verdict_lines
+from typed import MOST_RULE
 from verdicts import verdict_vectors
 
 SEED_PLANS, PLANS = 20071, 300
@@ -569,6 +570,11 @@ def write_programs(cells, write, of_course):
     write('crates/run/data/plan', SWALLOWED)
     write('crates/run/stdin', session_by_hand())
     write('crates/run/stdout', session_of(Model(cells, SWALLOWED), session_by_hand()).encode())
+    write('crates/postfix/stdin', TYPED + b'\n')
+    writes, _ = rule_lines(cells, TYPED)
+    if not SWALLOWED.endswith(bytes.fromhex(writes)):
+        sys.exit(f'{TYPED}: the model says {writes!r}, which is not the rule of that plan')
+    write('crates/postfix/stdout', writes.encode())
     own = {f'refused-{number}': file for number, file in example_of_number().items() if number != 8}
     own |= {'fourth-undo': whole([1] * 5, [(0, u) for u in range(1, 5)]), 'largest': LARGEST, 'too-long': LARGEST + b'\0'}
     own |= {'undone-together': UNDONE_TOGETHER, 'taken-in-turns': TAKEN_IN_TURNS, 'second-level': whole(nodes=NESTED)}
@@ -597,7 +603,7 @@ def with_another_number(body, number):
     return body[:len(body) - len(b''.join(steps))] + b''.join(steps[:at] + [other] + steps[at + 1:]), at + 1
 
 
-def write_differences(write, runs, hours):
+def write_differences(write, runs, hours, formulas):
     """the stored case of `compare` whose vectors do not all agree, and whose data files are not all whole: a last vector is missing, a step is cut, a byte is left
     over"""
     case = 'tests/stored/compare-differs/'
@@ -612,24 +618,31 @@ def write_differences(write, runs, hours):
     another, before = with_another_number(timed[1], 21)
     write(case + 'data/hours', data_of([timed, ('22 for 21', another), ('22 for 21, again', another), ('a cut step', timed[1][:-1]), ('not met', timed[1])]))
     write(case + 'data/verdicts', data_of([('P2', bytes(4 + 1 + RECORD) + p2)]) + bytes(1))
+    name, typed = formulas[0]
+    refused = (REFUSED + 15).to_bytes(RULE_AT, 'little') + typed[RULE_AT:]
+    write(case + 'data/formulas', data_of([(name, typed), ('refused', refused), ('refused, again', refused), ('a byte too short', typed[:RULE_AT + MOST_RULE - 1])]))
     write(case + 'stdout', b'files: vector 2 (a wrong number): expected 7, found 0\nfiles: 4 vectors, 2 agree\n'
           + f'runs: vector 2 (another end): expected {answers}, found {answers - 1}\n'.encode() +
           b'runs: 3 vectors, 1 agree\nruns: the data file is damaged after these\n'
           + f'hours: vector 2 (22 for 21): expected {answers_in(timed[1])}, found {before}\n'.encode() +
           b'hours: 3 vectors, 1 agree\nhours: the data file is damaged after these\n'
-          b'verdicts: vector 1 (P2): expected 0, found 65538\nverdicts: 1 vectors, 0 agree\nverdicts: the data file is damaged after these\n')
+          b'verdicts: vector 1 (P2): expected 0, found 65538\nverdicts: 1 vectors, 0 agree\nverdicts: the data file is damaged after these\n'
+          + f'formulas: vector 2 (refused): expected {REFUSED + 15}, found {typed[0]}\n'.encode() +
+          b'formulas: 3 vectors, 1 agree\nformulas: the data file is damaged after these\n')
 
 
-def write_other_records(write, runs, hours, verdicts):
-    """the stored case of `compare` whose numbers of verdicts are right, and whose record areas are not"""
+def write_other_records(write, runs, hours, verdicts, formulas):
+    """the stored case of `compare` whose numbers of verdicts and of typed rules are right, and whose bytes are not"""
     case = 'tests/stored/compare-other-records/'
     vectors, lines = other_records(verdicts)
+    typed, typed_lines = other_rules(formulas)
     write(case + 'program', b'compare\n')
     write(case + 'data/files', data_of([('P1', bytes([0]) + P1)]))
     write(case + 'data/runs', data_of(runs[:1]))
     write(case + 'data/hours', data_of(hours[:1]))
     write(case + 'data/verdicts', data_of(vectors))
-    write(case + 'stdout', ('files: 1 vectors, 1 agree\nruns: 1 vectors, 1 agree\nhours: 1 vectors, 1 agree\n' + lines).encode())
+    write(case + 'data/formulas', data_of(typed))
+    write(case + 'stdout', ('files: 1 vectors, 1 agree\nruns: 1 vectors, 1 agree\nhours: 1 vectors, 1 agree\n' + lines + typed_lines).encode())
 
 
 def write_course(cells, write):
@@ -735,8 +748,8 @@ def main():
     write('crates/compare/data/formulas', data_of(formulas))
     groups = {'files': vectors, 'runs': runs, 'hours': hours, 'verdicts': verdicts, 'formulas': formulas}
     write('crates/compare/stdout', ''.join(f'{group}: {len(of)} vectors, {len(of)} agree\n' for group, of in groups.items()).encode())
-    write_differences(write, runs, hours)
-    write_other_records(write, runs, hours, verdicts)
+    write_differences(write, runs, hours, formulas)
+    write_other_records(write, runs, hours, verdicts, formulas)
     write_course(cells, write)
     write_rules(cells, write)
     # last, so that the lines of the others keep their numbers, which docs/GUIDE.md has

@@ -1,4 +1,4 @@
-"""The office's own story, as five plans and a window file: a sweep is measured, stored, a reverberation time computed from it, and the figure filed.
+"""The office's own story, as five plans, a window file and a rule as people type it: a sweep is measured, stored, a reverberation time computed from it, and the figure filed.
 
 What make_vectors.py writes beside P1 to P8. Actions: 0 sweep, 1 store, 2 reverberation time, 3 file; in WITHDRAWN 4 withdraw by the server, 5 withdraw by
 hand; and in RESTORED 4 delete the recording, 5 tell the archive, 6 restore the recording.
@@ -21,6 +21,8 @@ def story(instead):
 
 # the handler skips: a failed store is swallowed, and the figure is filed with nothing behind it
 SWALLOWED = story(SKIP)
+# its rule, as people type it: d is filed, b stored
+TYPED = b'not d or b'
 # the handler stores again: where that fails too, the plan fails, and no figure is filed
 MENDED = story(action(STORE))
 

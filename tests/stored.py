@@ -8,7 +8,7 @@ from office import HALL
 from plans import number_of
 from sessions import Model, Timed, session_of, start_number
 from shown import shown_run
-from typed import MOST_TEXT, rule_of
+from typed import MOST_RULE, MOST_TEXT, rule_of
 from windows import window, window_file
 
 FORMS = {'sequence': 'seq', 'parallel': 'par', 'choice': 'choice', 'compensation': 'comp', 'handler': 'handler'}
@@ -51,9 +51,21 @@ def chart_lines(cells):
     return '\n'.join(f'{name}\n{table(form)}' for name, form in FORMS.items())
 
 
+# where the bytes that a vector expects stand in its body
+RECORD_AT, RULE_AT = 5, 4
+
+
 def with_another_byte(body, at):
-    """a vector of the group `verdicts` that expects the same number and, at this place of the record area, another byte"""
-    return body[:5 + at] + bytes([body[5 + at] ^ 3]) + body[5 + at + 1:]
+    """a vector that expects the same number and, at this place of its body, another byte"""
+    return body[:at] + bytes([body[at] ^ 3]) + body[at + 1:]
+
+
+def other_rules(formulas):
+    """likewise vectors of the group `formulas`: a byte of the rule, the last one after it, and one after a refusal"""
+    rule = formulas[0][1]
+    refused = next(body for _, body in formulas if body[1] > 0)
+    vectors = [('as it is', rule)] + [(f'another byte {at}', with_another_byte(body, RULE_AT + at)) for body, at in ((rule, 2), (rule, MOST_RULE - 1), (refused, 0))]
+    return vectors, f'formulas: vector 2 (another byte 2): expected {MOST_RULE}, found 2\nformulas: 4 vectors, 1 agree\n'
 
 
 def other_records(verdicts):
@@ -61,7 +73,7 @@ def other_records(verdicts):
     or after a refusal; and the lines of `compare` on them"""
     of = dict(verdicts)
     vectors = [(name, of[name]) for name in ('P1', 'P2')]
-    vectors += [(f'{name}, another byte {at}', with_another_byte(of[name], at)) for name, at in (('P2', 3), ('P1', 125), ('P1, areas 3 too short', 0))]
+    vectors += [(f'{name}, another byte {at}', with_another_byte(of[name], RECORD_AT + at)) for name, at in (('P2', 3), ('P1', 125), ('P1, areas 3 too short', 0))]
     return vectors, 'verdicts: vector 3 (P2, another byte 3): expected 126, found 3\nverdicts: 5 vectors, 2 agree\n'
 
 
