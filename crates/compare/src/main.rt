@@ -33,4 +33,5 @@ fn main() {
     run(Group::Runs, b"runs");
     run(Group::Hours, b"hours");
     run(Group::Verdicts, b"verdicts");
+    run(Group::Formulas, b"formulas");
 }

@@ -6,7 +6,7 @@ ghost use mathlib.Core.Path.{_≡_};
 ghost use mathlib.Core.Bool.{true};
 ghost use Prim.Native.Nat.{_+_, _≤_, _<_};
 ghost use lib.ListN.{length};
-ghost use Rattle.comparison.specs.Data.{bodyStart, vectorEnd, isNamed, isWhole, outcomeAt, fresh, damaged, firstOf, counted, after, comparedOf};
+ghost use Rattle.comparison.specs.Data.{bodyStart, vectorEnd, isNamed, isWhole, outcomeAt, fresh, damaged, firstOf, counted, comparedOf};
 use fields::number::four_at;
 use vectors::Group;
 use vectors::outcome::Outcome;

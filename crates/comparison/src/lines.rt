@@ -16,6 +16,7 @@ fn put_title(t: Text, group: Group) -> Text
         Group::Runs => text::put(t, b"runs"),
         Group::Hours => text::put(t, b"hours"),
         Group::Verdicts => text::put(t, b"verdicts"),
+        Group::Formulas => text::put(t, b"formulas"),
     }
 }
 

@@ -117,7 +117,7 @@ fn token_number(text: &[u8], at: usize) -> u8
     if x < 97 {
         return word_number(text, at);
     }
-    if x >= 107 {
+    if x >= 97 + LETTERS {
         return word_number(text, at);
     }
     if is_parted(text, at + 1) {

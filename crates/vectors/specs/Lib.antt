@@ -2,4 +2,5 @@ pub mod Outcome
 pub mod Files
 pub mod Runs
 pub mod Verdicts
+pub mod Formulas
 pub mod Groups

@@ -3,17 +3,16 @@
 -- lent full of zeros, against those that are there.
 use mathlib.Core.Bool.{cond}
 use mathlib.Core.List.{List, _++_}
-use Prim.Native.Nat.{ℕ, zero, suc, _+_, _-_, _/_, _%_}
-use lib.Dec.{ltb, eqb}
+use Prim.Native.Nat.{ℕ, _-_, _/_, _%_}
+use lib.Dec.{ltb}
 use lib.ListN.{length, getD, take, drop, replicate}
 use Rattle.judge.specs.Verdict.{workSize, recordSize, verdictOf, codeOf}
 use Rattle.judge.specs.Record.{recordFor}
 use Rattle.judge.specs.declared.Judgement.{Judgement}
 use Rattle.fields.specs.Number.{fourAt}
-use Rattle.vectors.specs.Outcome.{heldAgainst}
+use Rattle.vectors.specs.Outcome.{answerHeld}
 use Rattle.vectors.specs.declared.outcome.Outcome.{Outcome}
-use Rattle.vectors.specs.declared.outcome.Outcome.the-variants.{Damaged, Differs}
-use Rattle.vectors.specs.declared.verdicts.Answered.{Answered}
+use Rattle.vectors.specs.declared.outcome.Outcome.the-variants.{Damaged}
 
 -- bit 0 of `short` for a work area that lacks a byte, bit 1 for a record area that does
 abbrev pub workLent : ℕ → ℕ
@@ -29,17 +28,6 @@ verdictWith short file = verdictOf file (workLent short) (recordLent short)
 abbrev pub recordWith : ℕ → List ℕ → List ℕ
 recordWith short file = recordFor file (verdictWith short file) (take (recordLent short) (replicate recordSize 0)) ++ drop (recordLent short) (replicate recordSize 0)
 
-abbrev pub answeredWith : ℕ → List ℕ → Answered
-answeredWith short file = record { code = codeOf (verdictWith short file); shown = recordWith short file }
-
--- how many bytes from the start, of so many, are those of the body from its sixth on
-unfoldable pub alike : ℕ → ℕ → List ℕ → List ℕ → ℕ
-alike zero i shown body = i
-alike (suc m) i shown body = cond (eqb (getD shown i 0) (getD body (5 + i) 0)) (alike m (suc i) shown body) i
-
-abbrev pub answerHeld : ℕ → Answered → List ℕ → Outcome
-answerHeld expected a body = cond (eqb expected (a .code)) (heldAgainst recordSize (alike recordSize 0 (a .shown) body)) (Differs expected (a .code))
-
 -- The body's first four bytes are the number expected, the fifth says which areas are short, the next 126 are the bytes expected in the record area, the others are the file.
 abbrev pub verdictsOutcome : List ℕ → Outcome
-verdictsOutcome body = cond (ltb (length body) 131) Damaged (answerHeld (fourAt body 0) (answeredWith (getD body 4 0) (drop 131 body)) body)
+verdictsOutcome body = cond (ltb (length body) 131) Damaged (answerHeld (fourAt body 0) (codeOf (verdictWith (getD body 4 0) (drop 131 body))) recordSize (recordWith (getD body 4 0) (drop 131 body)) body 5)

@@ -4,6 +4,7 @@ ghost use Rattle.vectors.specs.Groups.{outcomeIn};
 use outcome::Outcome;
 
 pub mod files;
+pub mod formulas;
 pub mod outcome;
 pub mod runs;
 pub mod verdicts;
@@ -14,6 +15,7 @@ pub enum Group {
     Runs,
     Hours,
     Verdicts,
+    Formulas,
 }
 
 // What a vector of the group comes to.
@@ -25,5 +27,6 @@ pub fn compare(group: Group, body: &[u8]) -> Outcome
         Group::Runs => runs::compare(body),
         Group::Hours => runs::compare(body),
         Group::Verdicts => verdicts::compare(body),
+        Group::Formulas => formulas::compare(body),
     }
 }

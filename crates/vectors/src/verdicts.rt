@@ -7,16 +7,10 @@ ghost use Prim.Native.Nat.{_-_, _/_, _%_, _≤_};
 ghost use lib.ListN.{length, take, drop};
 ghost use Rattle.judge.specs.Verdict.{verdictOf, codeOf};
 ghost use Rattle.judge.specs.Record.{recordFor};
-ghost use Rattle.vectors.specs.Verdicts.{answeredWith, alike, answerHeld, verdictsOutcome};
+ghost use Rattle.vectors.specs.Verdicts.{verdictsOutcome};
 use crate::outcome::Outcome;
-use crate::outcome::held;
+use crate::outcome::held_answer;
 use fields::number::four_at;
-
-// The number of a verdict, and the bytes of the record area after it.
-pub struct Answered {
-    pub code: u64,
-    pub shown: [u8; 126],
-}
 
 // The number of the verdict on a file, in areas of which `short` tells which lack a byte.
 fn code_in(short: u8, file: &[u8], work: &mut [u8], record: &mut [u8]) -> u64
@@ -29,50 +23,14 @@ fn code_in(short: u8, file: &[u8], work: &mut [u8], record: &mut [u8]) -> u64
     judge::code(judge::verdict(file, &mut work[..w], &mut record[..r])) as u64
 }
 
-// The verdict on a file, in areas of the size due but for what `short` tells.
-fn answered_with(short: u8, file: &[u8]) -> Answered
-    ensures { λ r. ⌜ r ≡ answeredWith short (now (file .entry)) ⌝ }
-{
-    let mut work = [0u8; 65536];
-    let mut shown = [0u8; 126];
-    let code = code_in(short, file, &mut work, &mut shown);
-    Answered { code, shown }
-}
-
-// How many of the bytes shown, from the first on, are those that the body expects.
-fn alike(shown: &[u8; 126], body: &[u8]) -> usize
-    requires { ⌜ 131 ≤ length (now body) ⌝ }
-    ensures { λ r. ⌜ (r ≡ alike 126 0 (now (shown .entry)) (now (body .entry))) × (r ≤ 126) ⌝ }
-{
-    let mut i = 0;
-    while i < 126 {
-        if shown[i] != body[5 + i] {
-            return i;
-        }
-        i += 1;
-    }
-    i
-}
-
-// An answer is held against the number and the bytes that are expected. What differs is told by the numbers or, where these agree, by how many bytes do.
-fn held_answer(expected: u64, a: Answered, body: &[u8]) -> Outcome
-    requires { ⌜ 131 ≤ length (now body) ⌝ }
-    ensures { λ r. ⌜ r ≡ answerHeld expected a (now (body .entry)) ⌝ }
-{
-    let found = a.code;
-    let shown = a.shown;
-    if expected != found {
-        return Outcome::Differs { expected, found };
-    }
-    held(126, alike(&shown, body) as u64)
-}
-
 pub fn compare(body: &[u8]) -> Outcome
     ensures { λ r. ⌜ r ≡ verdictsOutcome (now (body .entry)) ⌝ }
 {
     if body.len() < 131 {
         return Outcome::Damaged;
     }
-    let found = answered_with(body[4], &body[131..]);
-    held_answer(four_at(body, 0), found, body)
+    let mut work = [0u8; 65536];
+    let mut shown = [0u8; 126];
+    let found = code_in(body[4], &body[131..], &mut work, &mut shown);
+    held_answer(four_at(body, 0), found, &shown, body, 5)
 }

@@ -24,6 +24,9 @@ word-number-requires c κs = search needs
 returns-4 : tie.Need-returns-4
 returns-4 c = c .word-number .ensures ∙ sym (token-at _ _ (c .before .before .before .before .before .if1 .left) ∙ (rw (ne-eqb _ _ (c .before .before .before .if2 .left), ne-eqb _ _ (c .before .before .if3 .left), lt-leb _ _ (c .before .if4 .taken))))
 
+add-if5 : tie.Need-add-if5
+add-if5 c = search needs
+
 word-number-requires-2 : tie.Need-word-number-requires-2
 word-number-requires-2 c κs = search needs
 
@@ -55,6 +58,7 @@ token-number-spec =
     returns-3
     word-number-requires
     returns-4
+    add-if5
     word-number-requires-2
     returns-5
     add-is-parted

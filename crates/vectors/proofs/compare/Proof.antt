@@ -27,6 +27,12 @@ enum-told-4 c = search needs
 compare-requires-4 : tie.Need-compare-requires-4
 compare-requires-4 c κs = search needs
 
+enum-told-5 : tie.Need-enum-told-5
+enum-told-5 c = search needs
+
+compare-requires-5 : tie.Need-compare-requires-5
+compare-requires-5 c κs = search needs
+
 returns : tie.Need-returns
 returns c = rw (c .before .enum-told .given .1) (c .compare .ensures)
 
@@ -38,6 +44,9 @@ returns-3 c = rw (c .before .enum-told3 .given .1) (c .compare3 .ensures)
 
 returns-4 : tie.Need-returns-4
 returns-4 c = rw (c .before .enum-told4 .given .1) (c .compare4 .ensures)
+
+returns-5 : tie.Need-returns-5
+returns-5 c = rw (c .before .enum-told5 .given .1) (c .compare5 .ensures)
 
 pub compare-spec : {M : Type 1} → statement M
 compare-spec =
@@ -51,7 +60,10 @@ compare-spec =
     compare-requires-3
     enum-told-4
     compare-requires-4
+    enum-told-5
+    compare-requires-5
     returns
     returns-2
     returns-3
-    returns-4)
+    returns-4
+    returns-5)

@@ -39,6 +39,15 @@ slice-aggregate-put-4 c = search needs
 put-requires-4 : tie.Need-put-requires-4
 put-requires-4 c κs = search needs
 
+enum-told-5 : tie.Need-enum-told-5
+enum-told-5 c = search needs
+
+slice-aggregate-put-5 : tie.Need-slice-aggregate-put-5
+slice-aggregate-put-5 c = search needs
+
+put-requires-5 : tie.Need-put-requires-5
+put-requires-5 c κs = search needs
+
 returns : tie.Need-returns
 returns c = rw (c .before .before .enum-told .given .1) (c .put .ensures)
 
@@ -50,6 +59,9 @@ returns-3 c = rw (c .before .before .enum-told3 .given .1) (c .put3 .ensures)
 
 returns-4 : tie.Need-returns-4
 returns-4 c = rw (c .before .before .enum-told4 .given .1) (c .put4 .ensures)
+
+returns-5 : tie.Need-returns-5
+returns-5 c = rw (c .before .before .enum-told5 .given .1) (c .put5 .ensures)
 
 pub put-title-spec : {M : Type 1} → statement M
 put-title-spec =
@@ -67,7 +79,11 @@ put-title-spec =
     enum-told-4
     slice-aggregate-put-4
     put-requires-4
+    enum-told-5
+    slice-aggregate-put-5
+    put-requires-5
     returns
     returns-2
     returns-3
-    returns-4)
+    returns-4
+    returns-5)
