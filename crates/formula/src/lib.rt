@@ -1,8 +1,8 @@
 // Rules as people type them, turned into postfix order.
 //
-// The readers call each other in a cycle, a frame for each bracket and operator that is pending. So a pass without recursion goes first, which finds
-// 14 and 15: the readers meet only texts whose postfix list has at most 127 bytes, and nest no deeper than 5 for each of 17 levels of brackets and
-// one for each of 126 nots.
+// The readers call each other in a cycle, a frame for each operator and bracket that is pending. So a pass without recursion goes first, which finds
+// 14 and 15: the readers then meet only texts whose postfix list has at most 127 bytes, and nest at most 211 deep: five for each of 17 levels of
+// brackets, and one for each pending not or implies, of which such a text has at most 126.
 ghost use mathlib.Core.Path.{_≡_};
 ghost use Prim.Native.Nat.{_≤_};
 ghost use Rattle.grammar.specs.Token.{and, or};

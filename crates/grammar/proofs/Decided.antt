@@ -53,7 +53,7 @@ lexed (suc n) b h = go (clear b) (tokenNumber (clear b)) refl (view (clear b)) (
     go c k e views.none again = spells [] (ends b (sym e))
     go c k e views.wrong again = not-spelled (λ ts x. never-wrong b ts (sym e) x)
     go c k e (views.token t v front) again =
-        further b t v (sym e) (again (drop (size (number t)) (clear b)) (less b n (number t) (size (number t)) (sym e) (known t v .small) (size-some t v) h))
+        further b t v (sym e) (again (drop (size (number t)) (clear b)) (less b n (number t) (size (number t)) (sym e) (known t v .small) (size-some (number t) (known t v .small)) h))
 
 -- Whether some tokens pass, by computation.
 unfoldable pub passing : Bool → ℕ → List Token → Bool

@@ -7,9 +7,9 @@ use Prim.Native.Nat.{ℕ, _+_, _-_, _≤_, _<_}
 use native.Mathlib.Omega.{arith}
 use lib.Dec.{ltb, leb, eqb}
 use lib.ListN.{length, drop}
-use borrow.Author.Tests.{eqb-true, leb-true, ltb-true}
+use borrow.Author.Tests.{eqb-true, leb-true, ltb-true, lt-leb}
 use Rattle.blocks.proofs.Bounded.{decide, both-true}
-use Rattle.grammar.specs.Token.{Token, letter, not, operator, and, or, implies, opening, closing}
+use Rattle.grammar.specs.Token.{Token, letter, opening, closing}
 use Rattle.grammar.specs.Spelling.{Word, a-to-j, n-o-t, a-n-d, o-r, i-m-p-l-i-e-s, Parted, at-end, at-blank, at-opening, at-closing, Spells, end, blank, opened, closed, word}
 use Rattle.grammar.specs.Next.{number, parted, stands, wordNumber, tokenNumber, isLetter, size, blanks, clear}
 use Rattle.grammar.proofs.Lexing.{Valid, known, same-token, small}
@@ -41,14 +41,16 @@ stood (x ∷ w) [] h = absurd (true≢false (sym h))
 stood (x ∷ w) (y ∷ b) h = let k = both-true (eqb x y) (stands w b) h in stood-more x y w b (eqb-true x y (k .0)) (stood w b (k .1))
 
 -- A token takes a byte or more.
-pub size-some : (t : Token) → Valid t → 1 ≤ size (number t)
-size-some (letter a) v = rw (small a v) (omega arith)
-size-some not v = omega arith
-size-some (operator and) v = omega arith
-size-some (operator or) v = omega arith
-size-some implies v = omega arith
-size-some opening v = omega arith
-size-some closing v = omega arith
+pub size-some : (k : ℕ) → k < 0xFE → 1 ≤ size k
+size-some k h = go (decide (eqb k 0x80)) (decide (eqb k 0x81)) (decide (eqb k 0x82)) (decide (eqb k 0x83))
+  where
+    go : (eqb k 0x80 ≡ true) ⊎ (eqb k 0x80 ≡ false) → (eqb k 0x81 ≡ true) ⊎ (eqb k 0x81 ≡ false) → (eqb k 0x82 ≡ true) ⊎ (eqb k 0x82 ≡ false)
+        → (eqb k 0x83 ≡ true) ⊎ (eqb k 0x83 ≡ false) → 1 ≤ size k
+    go (inl a) b c d = rw a (omega arith)
+    go (inr a) (inl b) c d = rw (a, b) (omega arith)
+    go (inr a) (inr b) (inl c) d = rw (a, b, c) (omega arith)
+    go (inr a) (inr b) (inr c) (inl d) = rw (a, b, c, d) (omega arith)
+    go (inr a) (inr b) (inr c) (inr d) = rw (a, b, c, d, lt-leb 0xFE k h) (omega arith)
 
 -- What the number of the next token tells.
 pub data View : List ℕ → ℕ → Type 0 where

@@ -1,10 +1,10 @@
 -- The inputs that were tried: the grammar has their texts among its examples, and the lines are computed.
-use mathlib.Core.Path.{_≡_, ap}
+use mathlib.Core.Path.{ap}
 use mathlib.Core.List.{[], _∷_}
 use native.Mathlib.Omega.{arith}
 use Rattle.text.specs.Decimal.{digits}
 use Rattle.text.specs.Lines.{each}
-use Rattle.text.specs.Text.{ascii, textOf}
+use Rattle.text.specs.Text.{ascii}
 use Rattle.grammar.proofs.Examples.{examples}
 use Rattle.formula.specs.declared.Turned.{Turned}
 use Rattle.formula.proofs.Answers.{answers}

@@ -8,7 +8,7 @@ use native.Mathlib.Omega.{arith}
 use lib.Dec.{ltb, leb, eqb}
 use lib.ListN.{length, drop, drop-of-length-le}
 use lib.Seq.{drop-drop}
-use borrow.Author.Tests.{lt-leb, ltb-true, ltb-false}
+use borrow.Author.Tests.{ltb-true, ltb-false}
 use Rattle.blocks.proofs.Bounded.{decide}
 use Rattle.grammar.specs.Token.{Token}
 use Rattle.grammar.specs.Spelling.{Spells}
@@ -16,6 +16,7 @@ use Rattle.grammar.specs.Next.{first, others, tokenNumber, size, blanks, clear}
 use Rattle.tokens.specs.Tokens.{nextOf}
 use Rattle.tokens.specs.declared.Next.{Next}
 use Rattle.grammar.proofs.Lexing.{shows}
+use Rattle.grammar.proofs.Views.{size-some}
 use Rattle.tokens.proofs.Scan.{token-end}
 
 forward : (a b c : ℕ) → a ≤ a + b + c
@@ -24,22 +25,11 @@ forward a b c = omega arith
 pub next-forward : (text : List ℕ) (at : ℕ) → at ≤ nextOf text at .at
 next-forward text at = forward at (blanks (drop at text)) (size (tokenNumber (clear (drop at text))))
 
-size-more : (k : ℕ) → k < 0xFE → 1 ≤ size k
-size-more k h = go (decide (eqb k 0x80)) (decide (eqb k 0x81)) (decide (eqb k 0x82)) (decide (eqb k 0x83))
-  where
-    go : (eqb k 0x80 ≡ true) ⊎ (eqb k 0x80 ≡ false) → (eqb k 0x81 ≡ true) ⊎ (eqb k 0x81 ≡ false) → (eqb k 0x82 ≡ true) ⊎ (eqb k 0x82 ≡ false)
-        → (eqb k 0x83 ≡ true) ⊎ (eqb k 0x83 ≡ false) → 1 ≤ size k
-    go (inl a) b c d = rw a (omega arith)
-    go (inr a) (inl b) c d = rw (a, b) (omega arith)
-    go (inr a) (inr b) (inl c) d = rw (a, b, c) (omega arith)
-    go (inr a) (inr b) (inr c) (inl d) = rw (a, b, c, d) (omega arith)
-    go (inr a) (inr b) (inr c) (inr d) = rw (a, b, c, d, lt-leb 0xFE k h) (omega arith)
-
 further : (a b c : ℕ) → 1 ≤ c → a < a + b + c
 further a b c h = omega arith
 
 pub next-further : (text : List ℕ) (at : ℕ) → nextOf text at .kind < 0xFE → at < nextOf text at .at
-next-further text at h = further at (blanks (drop at text)) (size (tokenNumber (clear (drop at text)))) (size-more _ h)
+next-further text at h = further at (blanks (drop at text)) (size (tokenNumber (clear (drop at text)))) (size-some _ h)
 
 none-left : (text : List ℕ) (at : ℕ) → length text ≤ at → nextOf text at .kind ≡ 0xFF
 unfolding tokenNumber blanks
