@@ -1,3 +1,4 @@
 pub mod Refused
 pub mod Areas
+pub mod TypedPlans
 pub mod Promises

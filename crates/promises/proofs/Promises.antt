@@ -5,9 +5,13 @@ use Rattle.job.proofs.Demand2.{demand2}
 use Rattle.job.proofs.PromisedEnd.{promised-end}
 use Rattle.job.proofs.TimedRunner.{timed-runner}
 use Rattle.judge.proofs.Demand3.{demand3}
+use Rattle.grammar.proofs.TypedRules.{typed-rules}
+use Rattle.grammar.proofs.Senses.{keeps-sense}
+use Rattle.formula.proofs.Answers.{answers}
 use Rattle.promises.specs.Promises.{Promises}
 use Rattle.promises.proofs.Areas.{leaves}
 use Rattle.promises.proofs.Refused.{demand-1}
+use Rattle.promises.proofs.TypedPlans.{typed-plans}
 
 pub promises : Promises
 promises = record {
@@ -17,4 +21,8 @@ promises = record {
   an-end = promised-end;
   windows = reads-windows;
   timed = timed-runner;
+  typed = typed-rules;
+  typed-sense = keeps-sense;
+  typed-answers = answers;
+  typed-plans = typed-plans;
 }

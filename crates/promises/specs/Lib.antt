@@ -1,4 +1,5 @@
 pub mod Refused
 pub mod Runner
 pub mod Verdict
+pub mod TypedPlans
 pub mod Promises

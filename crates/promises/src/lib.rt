@@ -1,1 +1,1 @@
-// The three demands, each whole, as document 01's mission words them, and document 02's promise of an end: specs/Promises.antt states them.
+// The three demands, each whole, as document 01's mission words them, and what document 02 promises of an end, of timed jobs and of typed rules: specs/Promises.antt states them.
