@@ -5,14 +5,11 @@ use libc::STDOUT_FILENO;
 
 fn answer(input: &[u8]) {
     let said = reply::reply_to(input);
+    let line = said.line;
     if said.too_long {
-        io::write_all(
-            STDERR_FILENO,
-            b"postfix: the text is too long: 65,536 bytes at most\n",
-        );
+        output::write(STDERR_FILENO, line);
         return;
     }
-    let line = said.line;
     if !output::write(STDOUT_FILENO, line) {
         os::fail(b"standard output");
     }

@@ -10,8 +10,8 @@ use lib.ListN.{length, getD, take}
 use lib.Seq.{length-take-le, take-all}
 use borrow.Author.Tests.{lt-ltb, leb-true, leb-false}
 use Rattle.blocks.proofs.Bounded.{decide}
-use Rattle.text.specs.Text.{empty}
-use Rattle.reply.specs.Reply.{longest, typedLength, replyTo, ReadsEnough}
+use Rattle.text.specs.Text.{textOf}
+use Rattle.reply.specs.Reply.{longest, typedLength, tooLong, replyTo, ReadsEnough}
 use Rattle.reply.specs.declared.Reply.{Reply}
 
 pub empty-length : (input : List ℕ) → length input ≡ 0 → 0 ≡ typedLength input
@@ -26,10 +26,10 @@ nearly-all input = go (decide (eqb (getD input (length input - 1) 0) 10))
     go (inl h) = rw h (omega arith)
     go (inr h) = rw h (omega arith)
 
-abbrev tooLong : Reply
-tooLong = record { «too_long» = true; line = empty }
+abbrev toldLong : Reply
+toldLong = record { «too_long» = true; line = textOf tooLong }
 
-long : (input : List ℕ) → longest + 1 < length input → replyTo input ≡ tooLong
+long : (input : List ℕ) → longest + 1 < length input → replyTo input ≡ toldLong
 long input h = let n = nearly-all input in rw (lt-ltb longest (typedLength input) (omega arith))
 
 pub reads-enough : ReadsEnough

@@ -6,7 +6,7 @@ use mathlib.Core.List.{List}
 use Prim.Native.Nat.{ℕ, _+_, _-_}
 use lib.Dec.{ltb, eqb}
 use lib.ListN.{length, getD, take}
-use Rattle.text.specs.Text.{empty, textOf}
+use Rattle.text.specs.Text.{ascii, textOf}
 use Rattle.formula.specs.Answer.{answerOf}
 use Rattle.reply.specs.Line.{lineFor}
 use Rattle.reply.specs.declared.Reply.{Reply}
@@ -21,10 +21,14 @@ typedLength input = cond (eqb (getD input (length input - 1) 0) 10) (length inpu
 abbrev pub typedIn : List ℕ → List ℕ
 typedIn input = take (typedLength input) input
 
+-- what is told of a text that is too long
+abbrev pub tooLong : List ℕ
+tooLong = ascii "postfix: the text is too long: 65,536 bytes at most\n"
+
 abbrev pub replyTo : List ℕ → Reply
 replyTo input =
     cond (ltb longest (typedLength input))
-    (record { «too_long» = true; line = empty })
+    (record { «too_long» = true; line = textOf tooLong })
     (record { «too_long» = false; line = textOf (lineFor (answerOf (typedIn input))) })
 
 -- To an input of which no more is read than a text and two bytes the same is said as to all of it.

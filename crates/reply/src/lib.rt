@@ -13,7 +13,7 @@ use text::Text;
 // The longest text that is read.
 pub const LONGEST: usize = 65536;
 
-// What is said to an input: that its text is too long, or a line.
+// What is said to an input: a line, which tells what its text becomes or that it is too long.
 pub struct Reply {
     pub too_long: bool,
     pub line: Text,
@@ -94,7 +94,10 @@ pub fn reply_to(input: &[u8]) -> Reply
 {
     let n = typed_length(input);
     if n > LONGEST {
-        let line = text::empty();
+        let line = text::put(
+            text::empty(),
+            b"postfix: the text is too long: 65,536 bytes at most\n",
+        );
         return Reply {
             too_long: true,
             line,
