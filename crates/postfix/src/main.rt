@@ -25,8 +25,7 @@ fn run(held: &mut [u8]) {
     answer(&held[..n]);
 }
 
-// Room for the longest text, a newline after it, and a byte more: so an input that is cut there is too long.
 fn main() {
-    let mut held = [0u8; reply::LONGEST + 2];
+    let mut held = reply::room();
     run(&mut held);
 }

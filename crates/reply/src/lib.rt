@@ -1,17 +1,24 @@
 // What is said to a rule as people type it: a line with its bytes in postfix order, or `refused` and document 02's number for why.
 ghost use mathlib.Core.Path.{_≡_};
-ghost use Prim.Native.Nat.{_≤_, _<_, min};
+ghost use Prim.Native.Nat.{_+_, _≤_, _<_, min};
 ghost use lib.ListN.{length};
 ghost use Rattle.text.specs.Lines.{each};
 ghost use Rattle.text.specs.Text.{appended, textOf};
 ghost use Rattle.reply.specs.Line.{hex, hexDigit, item, itemAt, lineFor};
-ghost use Rattle.reply.specs.Reply.{typedLength, replyTo};
+ghost use Rattle.reply.specs.Reply.{longest, typedLength, replyTo};
 use formula::Answer;
 use formula::Turned;
 use text::Text;
 
 // The longest text that is read.
-pub const LONGEST: usize = 65536;
+const LONGEST: usize = 65536;
+
+// Room for the longest text, a newline after it, and a byte more: so an input that is cut there is too long.
+pub fn room() -> [u8; 65538]
+    ensures { λ r. ⌜ longest + 2 ≡ length r ⌝ }
+{
+    [0; LONGEST + 2]
+}
 
 // What is said to an input: a line, which tells what its text becomes or that it is too long.
 pub struct Reply {
