@@ -46,6 +46,9 @@ def neighbours():
             opening, closing = '(' * (right == ')' and left != '('), ')' * (left == '(' and right != ')')
             yield (f'side by side, in a text: {left}{blank}{right}',
                    f'{opening}{before.get(left, "c ")}{left}{blank}{right}{behind.get(right, " d")}{closing}')
+    # no letter parts a word or a letter from what is behind it
+    for left, letter in itertools.product(['a', 'not', *(f'a {word}' for word in OPERATORS)], 'abcdefghijklmnopqrstuvwxyz'):
+        yield f'run together: {left}{letter}', left + letter
 
 
 def short_texts():
@@ -63,6 +66,12 @@ NESTS = {
     'to the right': lambda n: '(b implies ' * n + 'a' + ')' * n,
     'in the middle': lambda n: '(b or ' * n + 'a' + ' and c)' * n,
     'with nots': lambda n: 'not(' * n + 'a' + ')' * n,
+    'around a not': lambda n: '(' * n + 'not a' + ')' * n,
+    'behind two nots': lambda n: 'not not(' * n + 'a' + ')' * n,
+    'behind and': lambda n: '(b and ' * n + 'a' + ')' * n,
+    'behind or': lambda n: '(b or ' * n + 'a' + ')' * n,
+    'before or': lambda n: '(' * n + 'a' + ' or b)' * n,
+    'before implies': lambda n: '(' * n + 'a' + ' implies b)' * n,
     'with blanks': lambda n: '( ' * n + 'a' + ' )' * n}
 
 
@@ -91,6 +100,7 @@ def depths():
         yield f'{count} closing brackets alone', ')' * count
     yield '40 brackets, one after another', ' and '.join(['(a)'] * 40)
     yield '30 times two brackets', ' or '.join(['((a))'] * 30)
+    yield '60 times 16 brackets', ' and '.join([NESTS['around a letter'](16)] * 60)
 
 
 def chain(length, operators, place='first', brackets=0):
@@ -185,6 +195,8 @@ def blanks():
         yield f'{count} blanks behind', 'not a or b' + ' ' * count
         yield f'{count} blanks around a letter', f'{" " * count}a{" " * count}'
         yield f'{count} blanks for each', '( not ( a ) or b ) implies c'.replace(' ', ' ' * count)
+    # a text may be of any length
+    yield '30,000 blanks before, between and behind', 'a or b'.join([' ' * 30000] * 2).replace('or', ' ' * 30000 + 'or')
     yield 'no text', ''
     yield from told('blanks', ['(a)and(b)', '(a)or(b)', '(a)implies(b)', 'not(a)', 'not(not(a))', '(not(a))and(not(b))', '( a )', '(a )', '( a)', 'a and ( b )', 'a and( b)',
                                'a and (b )or c', '(a) and(b)or (c)', '(a)and b', 'a and(b)and c', 'not (a)', 'not  a', 'not(a)or(b and c)', ' not a or ( b and c ) '])
@@ -194,8 +206,9 @@ def other_bytes():
     """each byte alone; and those that are no part of a text, in the place of a blank, before, behind and between blanks"""
     for byte in range(256):
         yield f'byte {byte} alone', chr(byte)
-    for byte in (*range(0, 34), 39, 42, 44, 47, 48, 57, 64, 65, 91, 95, 96, 107, 123, *range(127, 256, 8), 160, 254, 255):
+    for byte in range(256):
         yield f'byte {byte} for a blank', f'a or{chr(byte)}b'
+        yield f'byte {byte} between a blank and a letter', f'a or {chr(byte)}b'
     for byte in (0, 9, 10, 13, 31, 33, 127, 128, 160, 255):
         yield f'byte {byte} before', f'{chr(byte)}a'
         yield f'byte {byte} behind', f'a{chr(byte)}'
@@ -228,7 +241,7 @@ def words():
     yield from told('words', ['anot', 'aand b', 'a andb', 'a orb', 'aor b', 'a impliesb', 'aimplies b', 'a implie b', 'a impliess b', 'a or(b)', 'a(or)b', 'a (and) b', '(a)(b)',
                               '(a) (b)', '(a)b', 'a(b)', '()', ')(', '(a', 'a)', '(a))', '((a)', '(a) or', '(and)', 'not()', '()a', 'a()', 'not', 'not not', 'not not a',
                               'not not not a', 'notnot a', 'not nota', 'a not', 'a not b', 'a not and b', 'a and not b', 'a or not not b', 'a implies not b', 'not a not b',
-                              'a and and b', 'a and or b', 'and a', 'or a b', 'a b and', 'a & b', 'a | b', '!a', '~a', 'a -> b', 'a => b', 'a xor b', 'a nor b', 'a nand b',
+                              'a and and b', 'a and or b', 'and a', 'or a b', 'a b and', 'a & b', 'a | b', 'a && b', 'a || b', 'a + b', 'a * b', 'a und b', 'a oder b', 'nicht a', 'a OR b', 'a Or b', '!a', '~a', 'a -> b', 'a => b', 'a xor b', 'a nor b', 'a nand b',
                               'a iff b', 'if a b', 'true', 'false', 'ab', 'aa', 'a a', 'a and b c', 'a, b', 'a.', '[a]', '{a}', '"a"', 'a or b;', '-a', '%s', '*', '0', '00',
                               '00 80', 'a0', 'a1 and b', 'A', 'NOT a', 'Not a', 'a AND b', 'a And b', 'a oR b', 'a IMPLIES b', 'a implies', 'implies a', 'noa', 'no a', 'n', 'no',
                               'an', 'i', 'im', 'imp', 'impl', 'impli', 'implie', 'o', 'an d', 'no t a', 'a o r b', 'a im plies b', 'a and d', 'a or r', 'i implies i', 'd and d'])

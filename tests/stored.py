@@ -135,6 +135,14 @@ RULES = {
     'backslash': b'a\\040or\\040b',
     # the newline is no part of the text; were one added, the text would end with a newline, and be refused
     'newline': b'a or b\n',
+    'two-newlines': b'a\n\n',
+    'return': b'a\r',
+    'tab': b'a\tor b',
+    'capital': b'A',
+    # as long a text as is answered, alone and with a newline, and two newlines behind it
+    'longest-text': b'a'.rjust(MOST_TEXT),
+    'longest-text-newline': b'a'.rjust(MOST_TEXT) + b'\n',
+    'longest-text-newlines': b'a'.rjust(MOST_TEXT) + b'\n\n',
     # a rule, if it were cut where the room ends
     'too-long': b'a'.ljust(MOST_TEXT + 1),
 }

@@ -5,8 +5,8 @@ use mathlib.Core.List.{List}
 use Prim.Native.Nat.{ℕ, _-_, _≤_, _<_}
 use native.Mathlib.Omega.{arith}
 use lib.Dec.{leb}
-use lib.ListN.{length, take, replicate}
-use lib.Seq.{take-at}
+use lib.ListN.{length, take, drop, replicate}
+use lib.Seq.{take-at, drop-at}
 use borrow.Author.Tests.{leb-true, leb-false}
 use Rattle.grammar.specs.Typed.{Typed, Decision, inside, outside}
 use Rattle.grammar.proofs.TypedRules.{typed-rules}
@@ -55,11 +55,24 @@ typed-of n (none-typed h) e = absurd (never e)
 typed-of n (long p t h) e = absurd (never e)
 typed-of n (short p t h) e = rw (take-at p (replicate (room - length p) 0) n (cc)) t
 
+-- the bytes behind the length, and all after a refusal
+zeros-of : {text : List ℕ} {q : Turned} (n : ℕ) → Answered text q → told q ≡ Postfix n → drop n (q .bytes) ≡ replicate (127 - n) 0
+zeros-of n (none-typed h) e = absurd (let z : _≡_ {A = ℕ} 0 1 = cc in omega arith)
+zeros-of n (long p t h) e = absurd (let z : _≡_ {A = ℕ} 0 1 = cc in omega arith)
+zeros-of n (short p t h) e = let l : length p ≡ n = cc in drop-at p (replicate (room - length p) 0) n l ∙ ap (λ (m : ℕ). replicate (room - m) 0) l
+
+refused-of : {text : List ℕ} {q : Turned} (n : ℕ) → Answered text q → told q ≡ Refused n → q .bytes ≡ replicate 127 0
+refused-of n (none-typed h) e = refl
+refused-of n (long p t h) e = refl
+refused-of n (short p t h) e = absurd (let z : _≡_ {A = ℕ} 0 1 = cc in omega arith)
+
 pub answers : Answers
 answers = record {
   postfix = λ text p h. (written-typed text p, λ t. fits text p t h);
   fourteen = λ text. (λ e. none-of (answered text) (ap told e), none text);
   fifteen = λ text. (λ e. too-long-of (answered text) (ap told e), λ l. too-long text (l .postfix) (l .typed) (l .long));
+  zeros = λ text n e. zeros-of n (answered text) e;
+  refused-zeros = λ text n e. refused-of n (answered text) e;
   a-rule = λ text n e. typed-rules .a-rule text _ (typed-of n (answered text) e);
 }
   where

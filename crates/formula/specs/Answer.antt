@@ -7,7 +7,7 @@ use mathlib.Core.List.{List, _++_}
 use mathlib.Core.Logic.{_↔_}
 use Prim.Native.Nat.{ℕ, _-_, _≤_, _<_}
 use lib.Dec.{leb}
-use lib.ListN.{length, take, replicate}
+use lib.ListN.{length, take, drop, replicate}
 use Rattle.bodies.specs.Rule.{Rule}
 use Rattle.grammar.specs.Typed.{Typed, Decision, inside, outside}
 use Rattle.grammar.proofs.TypedRules.{typed-rules}
@@ -51,5 +51,8 @@ pub record Answers : Type 0 where
   pub fourteen : (text : List ℕ) → (answerOf text ≡ refusal 14) ↔ ((p : List ℕ) → Typed text p → ⊥)
   -- else 15
   pub fifteen : (text : List ℕ) → (answerOf text ≡ refusal 15) ↔ TooLong text
+  -- "the bytes after it 0", and all of them after a refusal
+  pub zeros : (text : List ℕ) (n : ℕ) → answerOf text .answer ≡ Postfix n → drop n (answerOf text .bytes) ≡ replicate (127 - n) 0
+  pub refused-zeros : (text : List ℕ) (n : ℕ) → answerOf text .answer ≡ Refused n → answerOf text .bytes ≡ replicate 127 0
   -- what is handed back is a rule of the plan file for ten actions
   pub a-rule : (text : List ℕ) (n : ℕ) → answerOf text .answer ≡ Postfix n → Rule 10 (take n (answerOf text .bytes))

@@ -1,6 +1,6 @@
 // Rules as people type them, turned into postfix order.
 //
-// The readers call each other in a cycle, a frame for each operator and bracket that is pending. So a pass without recursion goes first, which finds
+// The readers call each other in a cycle, a frame or more for each not, implies and bracket that is pending. So a pass without recursion goes first, which finds
 // 14 and 15: the readers then meet only texts whose postfix list has at most 127 bytes, and nest at most 211 deep: five for each of 17 levels of
 // brackets, and one for each pending not or implies, of which such a text has at most 126.
 ghost use mathlib.Core.Path.{_≡_};

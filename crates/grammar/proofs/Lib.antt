@@ -6,5 +6,6 @@ pub mod Senses
 pub mod Passing
 pub mod Parsing
 pub mod Decided
+pub mod Bytes
 pub mod TypedRules
 pub mod Examples

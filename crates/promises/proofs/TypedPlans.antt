@@ -1,5 +1,5 @@
 -- Typed rules in plan files: what is handed back is a rule for as many actions exactly where these have its letters, and that is all that check 9 asks.
-use mathlib.Core.Path.{_≡_, refl, sym}
+use mathlib.Core.Path.{refl, sym}
 use mathlib.Core.List.{List, [], _∷_, _++_, append-nil}
 use Prim.Native.Nat.{ℕ, _≤_}
 use native.Mathlib.Omega.{arith}

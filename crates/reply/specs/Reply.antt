@@ -1,9 +1,10 @@
--- What the program says to an input. "A single newline at the very end of the input is not part of the text." "A text of over 65,536 bytes is told
--- on standard error as too long, and nothing is written." The proof of the promise is `reads-enough`.
+-- What the program says to an input: a newline at its very end is no part of the text, and a text of over 65,536 bytes is told as too long. The proofs of
+-- the promises are `reads-enough` and `takes-texts`.
 use mathlib.Core.Path.{_≡_}
 use mathlib.Core.Bool.{true, false, cond}
-use mathlib.Core.List.{List}
-use Prim.Native.Nat.{ℕ, _+_, _-_}
+use mathlib.Core.List.{List, [], _∷_, _++_}
+use mathlib.Core.Logic.{_↔_}
+use Prim.Native.Nat.{ℕ, _+_, _-_, _<_}
 use lib.Dec.{ltb, eqb}
 use lib.ListN.{length, getD, take}
 use Rattle.text.specs.Text.{ascii, textOf}
@@ -34,3 +35,13 @@ replyTo input =
 -- To an input of which no more is read than a text and two bytes the same is said as to all of it.
 pub record ReadsEnough : Type 0 where
   pub cut : (input : List ℕ) → replyTo (take (longest + 2) input) ≡ replyTo input
+
+pub record TakesTexts : Type 0 where
+  -- a newline at the very end is no part of the text,
+  pub newline : (text : List ℕ) → typedIn (text ++ (10 ∷ [])) ≡ text
+  -- an input that ends with another byte is the text,
+  pub other-end : (text : List ℕ) (x : ℕ) → (x ≡ 10 → ⊥) → typedIn (text ++ (x ∷ [])) ≡ text ++ (x ∷ [])
+  -- and so is no input
+  pub no-input : typedIn [] ≡ []
+  -- it is told as too long exactly where it has over 65,536 bytes
+  pub long : (input : List ℕ) → (replyTo input .«too_long» ≡ true) ↔ (65536 < length (typedIn input))
