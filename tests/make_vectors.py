@@ -112,6 +112,9 @@ UNDONE_TOGETHER = whole([1, 3, 1, 1], (), [(0, 0, 0), (0, 1, 0), (COMPENSATION, 
 # (0, then 1) in parallel with (2, then 3), the leaves numbered so that the run first in byte order changes sides at each entry; the rule is "not 3"
 TAKEN_IN_TURNS = whole([1] * 4, (), [(0, 2, 0), (0, 0, 0), (0, 3, 0), (0, 1, 0), (SEQUENCE, 1, 3), (SEQUENCE, 0, 2), (PARALLEL, 4, 5)], [3, 0x80])
 
+# ten actions in sequence, which always succeed: the one set is 1,023, the largest that there is, and the rule is "not 0"
+ALL_TEN = whole([1] * 10, (), [(0, a, 0) for a in range(10)] + [(SEQUENCE, 0, 1)] + [(SEQUENCE, 9 + k, 1 + k) for k in range(1, 9)], [0, 0x80])
+
 
 def examples_of_table():
     """the examples of document 01's table as they stand, and made whole files: name, number, file"""
@@ -577,7 +580,7 @@ def write_programs(cells, write, of_course):
     write('crates/postfix/stdout', writes.encode())
     own = {f'refused-{number}': file for number, file in example_of_number().items() if number != 8}
     own |= {'fourth-undo': whole([1] * 5, [(0, u) for u in range(1, 5)]), 'largest': LARGEST, 'too-long': LARGEST + b'\0'}
-    own |= {'undone-together': UNDONE_TOGETHER, 'taken-in-turns': TAKEN_IN_TURNS, 'second-level': whole(nodes=NESTED)}
+    own |= {'undone-together': UNDONE_TOGETHER, 'taken-in-turns': TAKEN_IN_TURNS, 'second-level': whole(nodes=NESTED), 'all-ten': ALL_TEN}
     for name, file in own.items():
         write(f'tests/files/{name}.plan', file)
     write('crates/course/data/hall.windows', HALL)
@@ -656,10 +659,10 @@ def write_course(cells, write):
 
 
 def write_rules(cells, write):
-    """the stored cases of `rule`. The text of each stands whole in a file of its own, as a word of a line could not"""
+    """the stored cases of `rule`. The text of each stands whole in a file of its own, as a word of a line could not; the front door puts a newline after it"""
     for name, text in RULES.items():
         case = f'tests/stored/rule-{name}/'
-        writes, tells = rule_lines(cells, text)
+        writes, tells = rule_lines(cells, text + b'\n')
         write(case + 'command', b'rule\n')
         write(case + 'text', text)
         write(case + 'stdout', writes.encode())

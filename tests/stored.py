@@ -133,13 +133,13 @@ RULES = {
     'dash': b'-n',
     'percent': b'a%.0s',
     'backslash': b'a\\040or\\040b',
-    # the newline is no part of the text; were one added, the text would end with a newline, and be refused
+    # a newline that was typed is part of the text, and outside the grammar
     'newline': b'a or b\n',
     'two-newlines': b'a\n\n',
     'return': b'a\r',
     'tab': b'a\tor b',
     'capital': b'A',
-    # as long a text as is answered, alone and with a newline, and two newlines behind it
+    # as long a text as is answered, and the same with one newline and with two, which is too long
     'longest-text': b'a'.rjust(MOST_TEXT),
     'longest-text-newline': b'a'.rjust(MOST_TEXT) + b'\n',
     'longest-text-newlines': b'a'.rjust(MOST_TEXT) + b'\n\n',
@@ -175,9 +175,9 @@ TIMED_SESSIONS = {
 TIMED_REFUSED = {'hours-refused-23': ('mended', 'refused-23', 23), 'hours-too-long': ('largest', 'too-long', 23), 'hours-too-large': ('p8', 'hall', 23),
                  'hours-plan-first': ('refused-4', 'refused-23', 4), 'hours-plan-first-9': ('refused-9', 'too-long', 9), 'hours-plan-alone': ('refused-6', 'hall', 6)}
 # of p3 and undone-together a program that lets a side never begin has a set that breaks the rule; of retried and taken-in-turns there are runs that are not
-# the plainest: more of it fails, or one side of a parallel is done before the other
+# the plainest: more of it fails, or one side of a parallel is done before the other; all-ten leaves the largest set
 CONSISTENT = ('p1', 'p3', 'mended', 'undone-together', 'q3')
-VIOLATED = ('p2', 'p7', 'swallowed', 'withdrawn', 'largest', 'retried', 'taken-in-turns', 'restored', 'second-level')
+VIOLATED = ('p2', 'p7', 'swallowed', 'withdrawn', 'largest', 'retried', 'taken-in-turns', 'restored', 'second-level', 'all-ten')
 
 
 def last_told(lines):

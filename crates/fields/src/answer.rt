@@ -1,6 +1,7 @@
 // A runner's answer as ten bytes: the number of the refusal or 0, the eight bytes of the leaves that may come, and the end: 0 open,
 // 1 succeeded, 2 failed.
 ghost use mathlib.Core.Path.{_≡_};
+ghost use mathlib.Core.Option.{Option·getD};
 ghost use Prim.Native.Nat.{_+_, _≤_};
 ghost use lib.ListN.{length};
 ghost use Rattle.job.specs.Numbers.{numberOf, nextOf, endNumber, endOf};
@@ -12,7 +13,7 @@ use job::End;
 use job::Status;
 
 fn number_in(a: Answer) -> u64
-    ensures { λ r. ⌜ r ≡ numberOf a ⌝ }
+    ensures { λ r. ⌜ r ≡ Option·getD (numberOf a) 0 ⌝ }
 {
     match a {
         Answer::Told(_) => 0,

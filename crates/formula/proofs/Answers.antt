@@ -2,6 +2,7 @@
 use mathlib.Core.Path.{_≡_, refl, sym, ap, subst, _∙_}
 use mathlib.Core.Bool.{Bool, true, false, cond}
 use mathlib.Core.List.{List}
+use mathlib.Core.Option.{some, Option·some-injective, Option·none-ne-some}
 use Prim.Native.Nat.{ℕ, _-_, _≤_, _<_}
 use native.Mathlib.Omega.{arith}
 use lib.Dec.{leb}
@@ -10,11 +11,10 @@ use lib.Seq.{take-at, drop-at}
 use borrow.Author.Tests.{leb-true, leb-false}
 use Rattle.grammar.specs.Typed.{Typed, Decision, inside, outside}
 use Rattle.grammar.proofs.TypedRules.{typed-rules}
-use Rattle.formula.specs.Answer.{room, written, refusal, answerFor, answerOf, TooLong, Answers}
-use Rattle.formula.specs.declared.Answer.{Answer}
-use Rattle.formula.specs.declared.Answer.the-variants.{Postfix, Refused}
+use Rattle.formula.specs.Numbers.{numberOf, lengthOf}
+use Rattle.formula.specs.Answer.{room, written, refusal, answerFor, answerOf, TooLong, HandsBack, Answers}
 use Rattle.formula.specs.declared.Turned.{Turned}
-use Rattle.formula.proofs.Turning.{none, fits, too-long}
+use Rattle.formula.proofs.Turning.{outside-14, fits, too-long}
 
 data Answered (text : List ℕ) : Turned → Type 0 where
   none-typed : ((p : List ℕ) → Typed text p → ⊥) → Answered text (refusal 14)
@@ -34,50 +34,53 @@ answered text = go (typed-rules .decided text)
     go (outside h) = none-typed h
 
 -- what each answer says of the text
-abbrev told : Turned → Answer
-told q = q .answer
+module _ {text : List ℕ} where
+  none-of : {q : Turned} → Answered text q → numberOf (q .answer) ≡ some 14 → (p : List ℕ) → Typed text p → ⊥
+  none-of (none-typed h) e = h
+  none-of (long p t h) e = absurd (omega (arith, Option·some-injective 15 14 e))
+  none-of (short p t h) e = absurd (Option·none-ne-some 14 e)
 
-never : {m n : ℕ} → Refused m ≡ Postfix n → ⊥
-never e = let z : _≡_ {A = ℕ} 0 1 = cc in omega arith
+  too-long-of : {q : Turned} → Answered text q → numberOf (q .answer) ≡ some 15 → TooLong text
+  too-long-of (none-typed h) e = absurd (omega (arith, Option·some-injective 14 15 e))
+  too-long-of (long p t h) e = record { postfix = p; typed = t; long = h }
+  too-long-of (short p t h) e = absurd (Option·none-ne-some 15 e)
 
-none-of : {text : List ℕ} {q : Turned} → Answered text q → told q ≡ Refused 14 → (p : List ℕ) → Typed text p → ⊥
-none-of (none-typed h) e = h
-none-of (long p t h) e = absurd (let z : _≡_ {A = ℕ} 15 14 = cc in omega arith)
-none-of (short p t h) e = absurd (never (sym e))
+  typed-of : {q : Turned} (n : ℕ) → Answered text q → lengthOf (q .answer) ≡ some n → Typed text (take n (q .bytes))
+  typed-of n (none-typed h) e = absurd (Option·none-ne-some n e)
+  typed-of n (long p t h) e = absurd (Option·none-ne-some n e)
+  typed-of n (short p t h) e = rw (take-at p (replicate (room - length p) 0) n (Option·some-injective (length p) n e)) t
 
-too-long-of : {text : List ℕ} {q : Turned} → Answered text q → told q ≡ Refused 15 → TooLong text
-too-long-of (none-typed h) e = absurd (let z : _≡_ {A = ℕ} 14 15 = cc in omega arith)
-too-long-of (long p t h) e = record { postfix = p; typed = t; long = h }
-too-long-of (short p t h) e = absurd (never (sym e))
+  -- the bytes behind the length, and all after a refusal
+  zeros-of : {q : Turned} (n : ℕ) → Answered text q → lengthOf (q .answer) ≡ some n → drop n (q .bytes) ≡ replicate (127 - n) 0
+  zeros-of n (none-typed h) e = absurd (Option·none-ne-some n e)
+  zeros-of n (long p t h) e = absurd (Option·none-ne-some n e)
+  zeros-of n (short p t h) e =
+      let l = Option·some-injective (length p) n e in
+      drop-at p (replicate (room - length p) 0) n l ∙ ap (λ (m : ℕ). replicate (room - m) 0) l
 
-typed-of : {text : List ℕ} {q : Turned} (n : ℕ) → Answered text q → told q ≡ Postfix n → Typed text (take n (q .bytes))
-typed-of n (none-typed h) e = absurd (never e)
-typed-of n (long p t h) e = absurd (never e)
-typed-of n (short p t h) e = rw (take-at p (replicate (room - length p) 0) n (cc)) t
+  refused-of : {q : Turned} (n : ℕ) → Answered text q → numberOf (q .answer) ≡ some n → q .bytes ≡ replicate 127 0
+  refused-of n (none-typed h) e = refl
+  refused-of n (long p t h) e = refl
+  refused-of n (short p t h) e = absurd (Option·none-ne-some n e)
 
--- the bytes behind the length, and all after a refusal
-zeros-of : {text : List ℕ} {q : Turned} (n : ℕ) → Answered text q → told q ≡ Postfix n → drop n (q .bytes) ≡ replicate (127 - n) 0
-zeros-of n (none-typed h) e = absurd (let z : _≡_ {A = ℕ} 0 1 = cc in omega arith)
-zeros-of n (long p t h) e = absurd (let z : _≡_ {A = ℕ} 0 1 = cc in omega arith)
-zeros-of n (short p t h) e = let l : length p ≡ n = cc in drop-at p (replicate (room - length p) 0) n l ∙ ap (λ (m : ℕ). replicate (room - m) 0) l
+hands-back : (p : List ℕ) (q : Turned) → q ≡ written p → HandsBack p q
+hands-back p q e = record { long = ap (λ (x : Turned). lengthOf (x .answer)) e; bytes = ap (λ (x : Turned). x .bytes) e }
 
-refused-of : {text : List ℕ} {q : Turned} (n : ℕ) → Answered text q → told q ≡ Refused n → q .bytes ≡ replicate 127 0
-refused-of n (none-typed h) e = refl
-refused-of n (long p t h) e = refl
-refused-of n (short p t h) e = absurd (let z : _≡_ {A = ℕ} 0 1 = cc in omega arith)
+number-by : (n : ℕ) (q : Turned) → q ≡ refusal n → numberOf (q .answer) ≡ some n
+number-by n q e = ap (λ (x : Turned). numberOf (x .answer)) e
 
 pub answers : Answers
 answers = record {
-  postfix = λ text p h. (written-typed text p, λ t. fits text p t h);
-  fourteen = λ text. (λ e. none-of (answered text) (ap told e), none text);
-  fifteen = λ text. (λ e. too-long-of (answered text) (ap told e), λ l. too-long text (l .postfix) (l .typed) (l .long));
+  postfix = λ text p h. (handed-typed text p, λ t. hands-back p (answerOf text) (fits text p t h));
+  fourteen = λ text. (none-of (answered text), λ h. number-by 14 (answerOf text) (outside-14 text h));
+  fifteen = λ text. (too-long-of (answered text), λ l. number-by 15 (answerOf text) (too-long text (l .postfix) (l .typed) (l .long)));
   zeros = λ text n e. zeros-of n (answered text) e;
   refused-zeros = λ text n e. refused-of n (answered text) e;
   a-rule = λ text n e. typed-rules .a-rule text _ (typed-of n (answered text) e);
 }
   where
-    written-typed : (text p : List ℕ) → answerOf text ≡ written p → Typed text p
-    written-typed text p e =
-        let t = typed-of (length p) (answered text) (ap told e) in
-        let f = ap (λ (q : Turned). take (length p) (q .bytes)) e ∙ take-at p (replicate (room - length p) 0) (length p) refl in
+    handed-typed : (text p : List ℕ) → HandsBack p (answerOf text) → Typed text p
+    handed-typed text p b =
+        let t = typed-of (length p) (answered text) (b .long) in
+        let f = ap (take (length p)) (b .bytes) ∙ take-at p (replicate (room - length p) 0) (length p) refl in
         subst (λ (r : List ℕ). Typed text r) f t

@@ -21,9 +21,9 @@ use Rattle.formula.specs.declared.Reading.{Reading}
 use Rattle.formula.specs.declared.Turned.{Turned}
 
 -- the answer to a text
-pub none : (text : List ℕ) → ((p : List ℕ) → Typed text p → ⊥) → answerOf text ≡ refusal 14
+pub outside-14 : (text : List ℕ) → ((p : List ℕ) → Typed text p → ⊥) → answerOf text ≡ refusal 14
 unfolding answerOf
-none text h = go (typed-rules .decided text)
+outside-14 text h = go (typed-rules .decided text)
   where
     go : (d : Decision text) → answerFor d ≡ refusal 14
     go (inside p t) = absurd (h p t)

@@ -5,12 +5,14 @@ use mathlib.Core.Path.{_≡_}
 use mathlib.Core.Bool.{cond}
 use mathlib.Core.List.{List, _++_}
 use mathlib.Core.Logic.{_↔_}
+use mathlib.Core.Option.{some}
 use Prim.Native.Nat.{ℕ, _-_, _≤_, _<_}
 use lib.Dec.{leb}
 use lib.ListN.{length, take, drop, replicate}
 use Rattle.bodies.specs.Rule.{Rule}
 use Rattle.grammar.specs.Typed.{Typed, Decision, inside, outside}
 use Rattle.grammar.proofs.TypedRules.{typed-rules}
+use Rattle.formula.specs.Numbers.{numberOf, lengthOf}
 use Rattle.formula.specs.declared.Answer.the-variants.{Postfix, Refused}
 use Rattle.formula.specs.declared.Turned.{Turned}
 
@@ -38,21 +40,26 @@ pub record Becomes (text : List ℕ) (n : ℕ) : Type 0 where
   pub typed : Typed text postfix
   pub bytes : length postfix ≡ n
 
--- and more than there is room for
+-- more than there is room for
 pub record TooLong (text : List ℕ) : Type 0 where
   pub postfix : List ℕ
   pub typed : Typed text postfix
   pub long : room < length postfix
 
+-- The postfix bytes p are "handed back by value with its length, the bytes after it 0".
+pub record HandsBack (p : List ℕ) (t : Turned) : Type 0 where
+  pub long : lengthOf (t .answer) ≡ some (length p)
+  pub bytes : t .bytes ≡ p ++ replicate (127 - length p) 0
+
 pub record Answers : Type 0 where
   -- exactly a text of the grammar whose postfix list has at most 127 bytes gets them
-  pub postfix : (text p : List ℕ) → length p ≤ room → (answerOf text ≡ written p) ↔ Typed text p
+  pub postfix : (text p : List ℕ) → length p ≤ room → HandsBack p (answerOf text) ↔ Typed text p
   -- 14 exactly where the text is outside the grammar or too deep
-  pub fourteen : (text : List ℕ) → (answerOf text ≡ refusal 14) ↔ ((p : List ℕ) → Typed text p → ⊥)
+  pub fourteen : (text : List ℕ) → (numberOf (answerOf text .answer) ≡ some 14) ↔ ((p : List ℕ) → Typed text p → ⊥)
   -- else 15
-  pub fifteen : (text : List ℕ) → (answerOf text ≡ refusal 15) ↔ TooLong text
+  pub fifteen : (text : List ℕ) → (numberOf (answerOf text .answer) ≡ some 15) ↔ TooLong text
   -- "the bytes after it 0", and all of them after a refusal
-  pub zeros : (text : List ℕ) (n : ℕ) → answerOf text .answer ≡ Postfix n → drop n (answerOf text .bytes) ≡ replicate (127 - n) 0
-  pub refused-zeros : (text : List ℕ) (n : ℕ) → answerOf text .answer ≡ Refused n → answerOf text .bytes ≡ replicate 127 0
+  pub zeros : (text : List ℕ) (n : ℕ) → lengthOf (answerOf text .answer) ≡ some n → drop n (answerOf text .bytes) ≡ replicate (127 - n) 0
+  pub refused-zeros : (text : List ℕ) (n : ℕ) → numberOf (answerOf text .answer) ≡ some n → answerOf text .bytes ≡ replicate 127 0
   -- what is handed back is a rule of the plan file for ten actions
-  pub a-rule : (text : List ℕ) (n : ℕ) → answerOf text .answer ≡ Postfix n → Rule 10 (take n (answerOf text .bytes))
+  pub a-rule : (text : List ℕ) (n : ℕ) → lengthOf (answerOf text .answer) ≡ some n → Rule 10 (take n (answerOf text .bytes))

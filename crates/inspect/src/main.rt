@@ -11,7 +11,7 @@ fn main() {
         return;
     }
     let n = got.count;
-    if !output::write(STDOUT_FILENO, report::inspection::answer(&file[..n])) {
+    if !output::write(STDOUT_FILENO, inspection::answer(&file[..n])) {
         os::fail(b"standard output");
     }
 }

@@ -1,8 +1,10 @@
--- What the definitions of the promise of an end say, on two plans. Unused leaves are counted on the course's plan (plans/swallowed.plan), which
--- has nine nodes and five leaves. The plan "skip, then throw" shows what they do not admit: no end is told before it is reached or reached with
--- no entry, no leaf is told that is not next, and no list is taken whole that has an entry to be refused. Then timed jobs of it.
-use mathlib.Core.Path.{_≡_, refl, ap, _∙_}
+-- What the definitions of the promise of an end and of whole lists say, on two plans. Unused leaves are counted on the course's plan
+-- (plans/swallowed.plan), which has nine nodes and five leaves. The plan "skip, then throw" shows what they do not admit: no end is told before it
+-- is reached or reached with no entry, no leaf is told that is not next, and no list is taken whole that has an entry to be refused. Then timed
+-- jobs of it.
+use mathlib.Core.Path.{_≡_, refl, sym, ap, _∙_}
 use mathlib.Core.List.{List, [], _∷_}
+use mathlib.Core.Option.{Option, none, some, Option·some-ne-none}
 use Prim.Native.Nat.{ℕ, _+_, _^_, _≤_}
 use native.Mathlib.Omega.{arith}
 use lib.ListN.{length}
@@ -23,6 +25,7 @@ use Rattle.job.specs.Timed.{withHours, freshTimed, startTimedOf, takeTim
 use Rattle.job.specs.declared.Job.{Job}
 use Rattle.job.specs.Numbers.{numberOf, endNumber}
 use Rattle.job.specs.Offer.{Standing, offer, TakesAll, no-more, one-more, started}
+use Rattle.job.specs.Lists.{takenFrom}
 use Rattle.job.specs.PromisedEnd.{unusedLeaves, EndsHere, TellsLeaf, ReachesEnd}
 
 abbrev swallowed : List ℕ
@@ -90,12 +93,17 @@ skip-next : (t : TellsLeaf (bytesOf file (layout .nodes)) fresh) → t .leaf ≡
 skip-next t = holds-only (t .leaf) 0 (rw fresh-next at (t .told))
 
 -- nor is it taken
-throw-refused : numberOf (takeOf (fresh .job) (record { leaf = 1; outcome = 2 }) .answer) ≡ 11
+throw-refused : numberOf (takeOf (fresh .job) (record { leaf = 1; outcome = 2 }) .answer) ≡ some 11
 unfolding every total foldFrom ruleFrom toldBy leafPermits mayCome replay entriesFrom
 throw-refused = refl
 
 not-taken : (y : Standing) → TakesAll fresh (record { leaf = 1; outcome = 2 } ∷ []) y → ⊥
-not-taken y (one-more n t) = omega (arith, n, throw-refused)
+not-taken y (one-more n t) = Option·some-ne-none 11 (sym throw-refused ∙ n)
+
+-- a list that has it first is taken without it
+passed-over : takenFrom fresh (record { leaf = 1; outcome = 2 } ∷ record { leaf = 0; outcome = 1 } ∷ []) ≡ record { leaf = 0; outcome = 1 } ∷ []
+unfolding every total foldFrom ruleFrom toldBy leafPermits mayCome replay entriesFrom takenFrom
+passed-over = refl
 
 -- after both the run may end, as one that failed, and nothing is next
 over-ends : endNumber (over .told .end) ≡ 2
@@ -109,12 +117,8 @@ over-next = refl
 nothing-next : TellsLeaf (bytesOf file (layout .nodes)) over → ⊥
 nothing-next t = holds-none (t .leaf) (rw over-next at (t .told))
 
--- A minute has 32 bits.
-largest-minute : mostMinute + 1 ≡ 2 ^ 32
-largest-minute = refl
-
 -- the plan file's number comes before 23, and 23 is for what is no window file for its one action
-timed-starts : (numberOf (startTimedOf [] (0 ∷ []) .answer) ≡ 1) × (numberOf (startTimedOf file (1 ∷ 0 ∷ 0 ∷ 1 ∷ 0 ∷ []) .answer) ≡ 23)
+timed-starts : (numberOf (startTimedOf [] (0 ∷ []) .answer) ≡ some 1) × (numberOf (startTimedOf file (1 ∷ 0 ∷ 0 ∷ 1 ∷ 0 ∷ []) .answer) ≡ some 23)
 unfolding every total foldFrom ruleFrom
 timed-starts = (refl, refl)
 
@@ -122,15 +126,15 @@ timed-starts = (refl, refl)
 abbrev timed : Job
 timed = freshTimed file []
 
-skip-alone : (numberOf (takeOf timed (record { leaf = 0; outcome = 1 }) .answer) ≡ 11) × (numberOf (takeTimedOf (fresh .job) (record { leaf = 0; outcome = 1 }) 0 .answer) ≡ 11)
+skip-alone : (numberOf (takeOf timed (record { leaf = 0; outcome = 1 }) .answer) ≡ some 11) × (numberOf (takeTimedOf (fresh .job) (record { leaf = 0; outcome = 1 }) 0 .answer) ≡ some 11)
 skip-alone = (refl, refl)
 
 -- a job that is made up, with the skip at the largest minute, is real: then the throw comes at that minute, and not earlier, nor the skip again
-abbrev at-the-end : ℕ → Entry → ℕ
+abbrev at-the-end : ℕ → Entry → Option ℕ
 at-the-end m e = numberOf (takeTimedOf (withHours [] (withEntry (freshJob file) (record { leaf = 0; outcome = 1 })) mostMinute) e m .answer)
 
-in-turn : (at-the-end mostMinute (record { leaf = 1; outcome = 2 }) ≡ 0) × (at-the-end 6 (record { leaf = 1; outcome = 2 }) ≡ 21)
-    × (at-the-end 6 (record { leaf = 0; outcome = 1 }) ≡ 11)
+in-turn : (at-the-end mostMinute (record { leaf = 1; outcome = 2 }) ≡ none) × (at-the-end 6 (record { leaf = 1; outcome = 2 }) ≡ some 21)
+    × (at-the-end 6 (record { leaf = 0; outcome = 1 }) ≡ some 11)
 unfolding every total foldFrom ruleFrom toldBy leafPermits mayCome replay entriesFrom leafWindow soonest
 in-turn = (refl, refl, refl)
 
@@ -142,10 +146,10 @@ abbrev hours : List ℕ
 hours = 0 ∷ 60 ∷ 0 ∷ 120 ∷ 0 ∷ 1 ∷ 224 ∷ 1 ∷ 252 ∷ 3 ∷ []
 
 -- leaf 0, finished, at minute m, of the job of it without an entry, with this minute
-abbrev answered : ℕ → ℕ → ℕ
+abbrev answered : ℕ → ℕ → Option ℕ
 answered minute m = numberOf (takeTimedOf (withHours hours (freshJob alone) minute) (record { leaf = 0; outcome = 1 }) m .answer)
 
 -- by the window of its own action; and without an entry there was no minute but 0
-by-day : (answered 0 60 ≡ 22) × (answered 0 480 ≡ 0) × (answered mostMinute mostMinute ≡ 11)
+by-day : (answered 0 60 ≡ some 22) × (answered 0 480 ≡ none) × (answered mostMinute mostMinute ≡ some 11)
 unfolding every total foldFrom ruleFrom toldBy leafPermits mayCome replay entriesFrom leafWindow windowFrom soonest
 by-day = (refl, refl, refl)

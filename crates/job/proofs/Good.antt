@@ -38,7 +38,7 @@ unfolding entriesFrom
 entries-length r i zero = refl
 entries-length r i (suc k) = ap suc (entries-length r (i + 1) k)
 
-map-snoc : (es : List Entry) (e : Entry) → map runEntry (es ++ (e ∷ [])) ≡ map runEntry es ++ (runEntry e ∷ [])
+pub map-snoc : (es : List Entry) (e : Entry) → map runEntry (es ++ (e ∷ [])) ≡ map runEntry es ++ (runEntry e ∷ [])
 map-snoc [] e = refl
 map-snoc (d ∷ es) e = ap (λ (w : Run). runEntry d ∷ w) (map-snoc es e)
 

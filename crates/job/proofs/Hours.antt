@@ -4,6 +4,7 @@ use mathlib.Core.Path.{_≡_, refl, sym, ap, subst, _∙_}
 use mathlib.Core.Bool.{true, false}
 use mathlib.Core.List.{List, [], _∷_, _++_}
 use mathlib.Core.Logic.{_⊎_, inl, inr}
+use mathlib.Core.Option.{none, Option·some-ne-none}
 use Prim.Native.Nat.{ℕ, _+_, _*_, _≤_, _<_}
 use native.Mathlib.Omega.{arith}
 use lib.Dec.{eqb}
@@ -36,7 +37,7 @@ use Rattle.job.proofs.Standing.{refuses-so, Fine, may, next-fine, start
 use Rattle.job.proofs.Hourly.{refused-at, taken-at, faulted-at}
 
 -- one entry more is taken after the others
-takes-more : (x y : Standing) (es : List Entry) (e : Entry) → TakesAll x es y → numberOf (takeOf (y .job) e .answer) ≡ 0 → TakesAll x (es ++ (e ∷ [])) (next y e)
+takes-more : (x y : Standing) (es : List Entry) (e : Entry) → TakesAll x es y → numberOf (takeOf (y .job) e .answer) ≡ none → TakesAll x (es ++ (e ∷ [])) (next y e)
 takes-more x y [] e no-more n = one-more n no-more
 takes-more x y (d ∷ es) e (one-more k t) n = one-more k (takes-more (next x d) y es e t n)
 
@@ -157,31 +158,31 @@ module _ (s : List ℕ) (l : Layout) (acc : readOf s ≡ Accepted l) (w : List �
           go (inr h) z = refused-stays 11 (refused-at s l acc w f j (fine .good) m0 came e m (not-taken s l acc j (fine .good) e h))
 
       -- the untimed runner takes the entry where it may come
-      may-come : numberOf (takeOf j e .answer) ≡ 0 → may s l acc y fine e ≡ true
+      may-come : numberOf (takeOf j e .answer) ≡ none → may s l acc y fine e ≡ true
       may-come n = go (decide (may s l acc y fine e))
         where
           go : (may s l acc y fine e ≡ true) ⊎ (may s l acc y fine e ≡ false) → may s l acc y fine e ≡ true
           go (inl h) = h
-          go (inr h) = absurd (omega (arith, n, ap (λ (a : Taken). numberOf (a .answer)) (not-taken s l acc j (fine .good) e h)))
+          go (inr h) = absurd (Option·some-ne-none 11 (sym (ap (λ (a : Taken). numberOf (a .answer)) (not-taken s l acc j (fine .good) e h)) ∙ n))
 
-      not-taken-at : (numberOf (takeOf j e .answer) ≡ 0 → ⊥) → Refuses 11 (x .job) (takeTimedOf (x .job) e m)
+      not-taken-at : (numberOf (takeOf j e .answer) ≡ none → ⊥) → Refuses 11 (x .job) (takeTimedOf (x .job) e m)
       not-taken-at n = go (decide (may s l acc y fine e))
         where
           go : (may s l acc y fine e ≡ true) ⊎ (may s l acc y fine e ≡ false) → Refuses 11 (x .job) (takeTimedOf (x .job) e m)
           go (inl h) = absurd (n (ap (λ (a : Taken). numberOf (a .answer)) (taken-e h)))
           go (inr h) = refuses-so 11 (x .job) (takeTimedOf (x .job) e m) (refused-at s l acc w f j (fine .good) m0 came e m (not-taken s l acc j (fine .good) e h))
 
-      too-early-at : numberOf (takeOf j e .answer) ≡ 0 → m < m0 → Refuses 21 (x .job) (takeTimedOf (x .job) e m)
+      too-early-at : numberOf (takeOf j e .answer) ≡ none → m < m0 → Refuses 21 (x .job) (takeTimedOf (x .job) e m)
       too-early-at n early = refuses-so 21 (x .job) (takeTimedOf (x .job) e m) (is-refused (may-come n) 21 (fault-early w N (e .leaf) m0 m early) refl)
 
-      outside-at : numberOf (takeOf j e .answer) ≡ 0 → m0 ≤ m → (OpenAt w N (e .leaf) m → ⊥) → Refuses 22 (x .job) (takeTimedOf (x .job) e m)
+      outside-at : numberOf (takeOf j e .answer) ≡ none → m0 ≤ m → (OpenAt w N (e .leaf) m → ⊥) → Refuses 22 (x .job) (takeTimedOf (x .job) e m)
       outside-at n late shut = go (decide (inside (leafWindow w N (e .leaf)) m))
         where
           go : (inside (leafWindow w N (e .leaf)) m ≡ true) ⊎ (inside (leafWindow w N (e .leaf)) m ≡ false) → Refuses 22 (x .job) (takeTimedOf (x .job) e m)
           go (inl i) = absurd (shut (keeps-windows .tells (l .types .len) w N (e .leaf) m f .0 i))
           go (inr i) = refuses-so 22 (x .job) (takeTimedOf (x .job) e m) (is-refused (may-come n) 22 (fault-outside w N (e .leaf) m0 m late i) refl)
 
-      takes-at : numberOf (takeOf j e .answer) ≡ 0 → m0 ≤ m → OpenAt w N (e .leaf) m
+      takes-at : numberOf (takeOf j e .answer) ≡ none → m0 ≤ m → OpenAt w N (e .leaf) m
           → takeTimedOf (x .job) e m ≡ record { answer = takeOf j e .answer; job = withHours w (takeOf j e .job) m }
       takes-at n late open-then =
           let h = may-come n in

@@ -12,8 +12,9 @@ pub mod Unused
 pub mod Honest
 pub mod Onward
 pub mod Real
-pub mod Demand2
 pub mod TakesAll
+pub mod Lists
+pub mod Demand2
 pub mod PromisedEnd
 pub mod Hourly
 pub mod Hours

@@ -10,12 +10,13 @@ use Rattle.plan.specs.Reading.{bytesOf, readOf}
 use Rattle.plan.specs.declared.Layout.{Layout}
 use Rattle.plan.specs.declared.Reading.the-variants.{Accepted}
 use Rattle.job.specs.Offer.{Standing, offer, started, recordOf}
+use Rattle.job.specs.Lists.{offered}
 use Rattle.job.specs.PromisedEnd.{unusedLeaves, ReachesEnd, PromisedEnd}
 use Rattle.job.proofs.Good.{runs-on}
 use Rattle.job.proofs.Standing.{Fine, reached, started-fine, offered-fine}
 use Rattle.job.proofs.Unused.{few-follow}
 use Rattle.job.proofs.Onward.{ends-or-tells}
-use Rattle.job.proofs.TakesAll.{offered, takes-to-end}
+use Rattle.job.proofs.TakesAll.{takes-to-end}
 
 module _ (s : List ℕ) (l : Layout) (acc : readOf s ≡ Accepted l) (x : Standing) (f : Fine s l acc x) where
   abbrev w : Run

@@ -145,6 +145,7 @@ no-minute-due-so j h t = refuses-so 11 j (takeTimedOf j (t .entry) (t .minute)) 
 
 pub timed-runner : TimedRunner
 timed-runner = record {
+  minutes = refl;
   starts = starts-so;
   turns-away = λ s w n h. refuses-so n noJob (startTimedOf s w) (ap (startTimedOn s w) h);
   no-windows = no-windows-so;

@@ -3,6 +3,7 @@
 use mathlib.Core.Path.{_≡_}
 use mathlib.Core.Bool.{cond}
 use mathlib.Core.List.{List, [], _∷_, map}
+use mathlib.Core.Option.{none}
 use Prim.Native.Nat.{ℕ, _≤_}
 use lib.Dec.{eqb}
 use lib.ListN.{length}
@@ -40,7 +41,7 @@ offer x (e ∷ es) = offer (next x e) es
 -- From x on every entry of the list is taken, each by the job that the one before it gave back, and the last one leaves y.
 pub data TakesAll : Standing → List Entry → Standing → Type 0 where
   no-more : {x : Standing} → TakesAll x [] x
-  one-more : {x y : Standing} {e : Entry} {es : List Entry} → numberOf (takeOf (x .job) e .answer) ≡ 0 → TakesAll (next x e) es y → TakesAll x (e ∷ es) y
+  one-more : {x y : Standing} {e : Entry} {es : List Entry} → numberOf (takeOf (x .job) e .answer) ≡ none → TakesAll (next x e) es y → TakesAll x (e ∷ es) y
 
 -- where a start on an accepted plan file with this layout stands
 abbrev pub started : List ℕ → Layout → Standing

@@ -5,7 +5,8 @@ use mathlib.Core.Path.{_≡_}
 use mathlib.Core.Bool.{true, false}
 use mathlib.Core.List.{List, [], _∷_}
 use mathlib.Core.Logic.{_↔_}
-use Prim.Native.Nat.{ℕ, _≤_, _<_}
+use mathlib.Core.Option.{none}
+use Prim.Native.Nat.{ℕ, _+_, _^_, _≤_, _<_}
 use lib.ListN.{length, replicate}
 use Rattle.hours.specs.Windows.{WindowFile}
 use Rattle.hours.specs.Hours.{OpenAt}
@@ -31,6 +32,12 @@ pub record TimedEntry : Type 0 where
   pub minute : ℕ
   pub fits : minute ≤ mostMinute
 
+-- What a call with the entry e and the minute m brings is one: the contract of `Job::take_at` says so of every value of the types.
+pub record Brings (e : Entry) (m : ℕ) : Type 0 where
+  pub brought : TimedEntry
+  pub the-entry : brought .entry ≡ e
+  pub the-minute : brought .minute ≡ m
+
 -- A list of timed entries offered to a fresh timed job: each goes to the job that the one before it gave back.
 abbrev pub nextTimed : Standing → TimedEntry → Standing
 nextTimed x t = onAnswer (takeTimedOf (x .job) (t .entry) (t .minute) .answer) (takeTimedOf (x .job) (t .entry) (t .minute) .job) (x .told)
@@ -52,17 +59,17 @@ pub record KeepsHours (s : List ℕ) (l : Layout) (w : List ℕ) (x : Standing) 
   pub job : x .job ≡ withHours w (untimed .job) (x .job .minute)
   pub told : x .told ≡ untimed .told
   -- 11 where the untimed runner would not take the entry
-  pub not-taken : (t : TimedEntry) → (numberOf (takeOf (untimed .job) (t .entry) .answer) ≡ 0 → ⊥)
+  pub not-taken : (t : TimedEntry) → (numberOf (takeOf (untimed .job) (t .entry) .answer) ≡ none → ⊥)
       → Refuses 11 (x .job) (takeTimedOf (x .job) (t .entry) (t .minute))
   -- then 21 for an earlier minute
-  pub too-early : (t : TimedEntry) → numberOf (takeOf (untimed .job) (t .entry) .answer) ≡ 0 → t .minute < x .job .minute
+  pub too-early : (t : TimedEntry) → numberOf (takeOf (untimed .job) (t .entry) .answer) ≡ none → t .minute < x .job .minute
       → Refuses 21 (x .job) (takeTimedOf (x .job) (t .entry) (t .minute))
   -- then 22 for one outside the window
-  pub outside : (t : TimedEntry) → numberOf (takeOf (untimed .job) (t .entry) .answer) ≡ 0 → x .job .minute ≤ t .minute
+  pub outside : (t : TimedEntry) → numberOf (takeOf (untimed .job) (t .entry) .answer) ≡ none → x .job .minute ≤ t .minute
       → (OpenAt w (bytesOf s (l .nodes)) (t .entry .leaf) (t .minute) → ⊥)
       → Refuses 22 (x .job) (takeTimedOf (x .job) (t .entry) (t .minute))
   -- else it is taken, the untimed runner's answer is told, and the job has the entry more and its minute
-  pub takes : (t : TimedEntry) → numberOf (takeOf (untimed .job) (t .entry) .answer) ≡ 0 → x .job .minute ≤ t .minute
+  pub takes : (t : TimedEntry) → numberOf (takeOf (untimed .job) (t .entry) .answer) ≡ none → x .job .minute ≤ t .minute
       → OpenAt w (bytesOf s (l .nodes)) (t .entry .leaf) (t .minute)
       → takeTimedOf (x .job) (t .entry) (t .minute)
       ≡ record { answer = takeOf (untimed .job) (t .entry) .answer; job = withHours w (takeOf (untimed .job) (t .entry) .job) (t .minute) }
@@ -85,6 +92,8 @@ pub record SaysNoHours (j : Job) : Type 0 where
   pub minute : j .minute ≡ 0
 
 pub record TimedRunner : Type 0 where
+  -- a minute has 32 bits
+  pub minutes : mostMinute + 1 ≡ 2 ^ 32
   -- a start: the plan file's number first, then 23 exactly where the other is no window file for the plan
   pub starts : (s w : List ℕ) (l : Layout) → readOf s ≡ Accepted l → WindowFile (actionsOf s l) w → Starts (startedTimed s l w) (startTimedOf s w)
   pub turns-away : (s w : List ℕ) (n : ℕ) → readOf s ≡ Refused n → Refuses n noJob (startTimedOf s w)

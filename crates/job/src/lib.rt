@@ -13,6 +13,7 @@ ghost use Rattle.plan.specs.Reading.{bytesOf, readOf};
 ghost use Rattle.job.specs.Job.{limits, endOf, saying, refusal, untimedJob, noJob, freshJob, startWith, startOf, zerosFrom, tidy, untimed, withEntry, afterEntry, takeWith, takeOn, takeOf, planOf};
 ghost use Rattle.job.specs.Offer.{Sized};
 ghost use Rattle.job.specs.Timed.{startTimedOf, takeTimedOf};
+ghost use Rattle.job.specs.TimedRunner.{Brings};
 
 mod timed;
 
@@ -38,15 +39,25 @@ pub enum Answer {
     Refused(u8),
 }
 
-// The bytes of a window file that names each of ten actions: the most that one can have.
-pub const MOST_WINDOWS: usize = 50;
+// The bytes of the largest plan file: its four headings, and as many types, pairs, nodes and rule bytes as a plan may have.
+const FILE: usize = 16
+    + Job::MOST_ACTIONS as usize
+    + 2 * plan::MOST_PAIRS as usize
+    + 3 * NODES
+    + Job::MOST_RULE as usize;
+
+// A leaf, and so an entry, is a node.
+const NODES: usize = Job::MOST_NODES as usize;
+
+// The bytes of a window file that names each action: the most that one can have.
+pub const MOST_WINDOWS: usize = 5 * Job::MOST_ACTIONS as usize;
 
 // A job: the bytes of its plan file, and its record so far, two bytes an entry; and where it is timed, those of its window file and the minute of
 // its last entry. The bytes past each are 0, and what says nothing is 0.
 pub struct Job {
-    pub file: [u8; plan::MOST_BYTES],
+    pub file: [u8; FILE],
     pub file_len: usize,
-    pub entries: [u8; 126],
+    pub entries: [u8; 2 * NODES],
     pub taken: usize,
     pub timed: bool,
     pub windows: [u8; MOST_WINDOWS],
@@ -111,16 +122,14 @@ fn zero_past(i: usize, at: usize, x: u8) -> bool
     x == 0
 }
 
-// Whether the lengths are in range and the bytes past the plan file and past the record are 0. Every value of the type has the sizes that the
-// promises on made-up jobs ask for.
+// Whether the lengths are in range and the bytes past the plan file and past the record are 0.
 fn is_tidy(j: Job) -> bool
     ensures { λ r. ⌜ r ≡ tidy j ⌝ }
-    ensures { λ r. ⌜ Sized j ⌝ }
 {
     let file = j.file;
     let entries = j.entries;
-    if j.file_len <= plan::MOST_BYTES {
-        if j.taken < 63 {
+    if j.file_len <= FILE {
+        if j.taken < NODES {
             if zeros_from(&file, j.file_len) {
                 return zeros_from(&entries, 2 * j.taken);
             }
@@ -149,12 +158,7 @@ fn is_untimed(j: Job) -> bool
 }
 
 // The untimed job with this plan and record.
-fn untimed_job(
-    file: [u8; plan::MOST_BYTES],
-    file_len: usize,
-    entries: [u8; 126],
-    taken: usize,
-) -> Job
+fn untimed_job(file: [u8; FILE], file_len: usize, entries: [u8; 2 * NODES], taken: usize) -> Job
     ensures { λ r. ⌜ r ≡ untimedJob file «file_len» entries taken ⌝ }
 {
     Job {
@@ -193,7 +197,7 @@ fn with_entry(j: Job, e: Entry) -> Job
 }
 
 // An entry that may come: it is kept, and what the table tells with it is told.
-fn after_entry(types: &[u8], nodes: &[u8], table: [u8; 63], j: Job, e: Entry) -> Taken
+fn after_entry(types: &[u8], nodes: &[u8], table: [u8; NODES], j: Job, e: Entry) -> Taken
     requires { ⌜ Runnable (now types) (now nodes) × (j .taken < 63) × (e .leaf < 63) ⌝ }
     ensures { λ r. ⌜ r ≡ afterEntry (now (nodes .entry)) table j e ⌝ }
 {
@@ -228,7 +232,7 @@ fn take_with(types: &[u8], nodes: &[u8], j: Job, e: Entry) -> Taken
 fn no_job() -> Job
     ensures { λ r. ⌜ r ≡ noJob ⌝ }
 {
-    untimed_job([0u8; plan::MOST_BYTES], 0, [0u8; 126], 0)
+    untimed_job([0u8; FILE], 0, [0u8; 2 * NODES], 0)
 }
 
 // The fresh job of a plan file.
@@ -236,9 +240,9 @@ fn fresh_job(s: &[u8]) -> Job
     requires { ⌜ length (now s) ≤ mostBytes ⌝ }
     ensures { λ r. ⌜ r ≡ freshJob (now (s .entry)) ⌝ }
 {
-    let mut file = [0u8; plan::MOST_BYTES];
+    let mut file = [0u8; FILE];
     blocks::copy(&mut file, 0, s);
-    untimed_job(file, s.len(), [0u8; 126], 0)
+    untimed_job(file, s.len(), [0u8; 2 * NODES], 0)
 }
 
 // The job that a start makes from a plan file with this layout.
@@ -246,7 +250,7 @@ fn start_with(s: &[u8], l: Layout) -> Taken
     requires { ⌜ readOf (now s) ≡ Reading.Accepted l ⌝ }
     ensures { λ r. ⌜ r ≡ startWith (now (s .entry)) l ⌝ }
 {
-    let table = [0u8; 63];
+    let table = [0u8; NODES];
     let told = state::told_by(plan::part_of(s, l.types), plan::part_of(s, l.nodes), &table);
     Taken {
         answer: Answer::Told(say(told)),
@@ -309,9 +313,11 @@ impl Job {
         }
     }
 
-    // Takes an entry, or refuses it and hands the job back unchanged. A timed job counts as false.
+    // Takes an entry, or refuses it and hands the job back unchanged. A timed job counts as false. Every value of the type has the sizes that the promises
+    // on made-up jobs ask for.
     pub fn take(self, e: Entry) -> Taken
         ensures { λ r. ⌜ r ≡ takeOf self e ⌝ }
+        ensures { λ r. ⌜ Sized self ⌝ }
     {
         if !is_untimed(self) {
             return refuse(11, self);
@@ -337,6 +343,7 @@ impl Job {
     // Takes an entry with its minute, or refuses it and hands the job back unchanged. An untimed job counts as false.
     pub fn take_at(self, e: Entry, minute: u32) -> Taken
         ensures { λ r. ⌜ r ≡ takeTimedOf self e minute ⌝ }
+        ensures { λ r. ⌜ Brings e minute ⌝ }
     {
         if !timed::is_tidy(self) {
             return refuse(11, self);

@@ -6,7 +6,8 @@ use lib.ListN.{length, replicate}
 use Rattle.process.specs.Process.{ok, fail, Entry, entry, Run}
 use Rattle.state.specs.declared.Entry as bytes
 use Rattle.job.specs.Offer.{runEntry}
-use Rattle.job.proofs.TakesAll.{offered, offered-back}
+use Rattle.job.specs.Lists.{offered}
+use Rattle.job.proofs.TakesAll.{offered-back}
 use Rattle.plainest.specs.Bytes.{encode, recordBytes}
 use Rattle.judge.specs.Shown.{shownEntries, shownRun}
 

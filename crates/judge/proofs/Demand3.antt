@@ -3,6 +3,7 @@ use mathlib.Core.Path.{_≡_, refl, sym, ap, subst, _∙_}
 use mathlib.Core.Bool.{Bool, true, false, not, true≢false}
 use mathlib.Core.List.{List, _++_, map, List·Memᴰ}
 use mathlib.Core.Logic.{_↔_}
+use mathlib.Core.Option as option
 use Prim.Native.Nat.{ℕ, _≤_, _<_}
 use native.Mathlib.Omega.{arith}
 use lib.ListN.{length, take, drop}
@@ -19,9 +20,10 @@ use Rattle.plan.proofs.Demand1.{demand1}
 use Rattle.state.specs.State.{entriesFrom}
 use Rattle.state.specs.declared.Entry.{Entry}
 use Rattle.job.specs.Offer.{started}
+use Rattle.job.specs.Lists.{offered}
 use Rattle.job.specs.Demand2.{planProcess}
 use Rattle.job.proofs.Standing.{started-fine}
-use Rattle.job.proofs.TakesAll.{offered, takes-to-end}
+use Rattle.job.proofs.TakesAll.{takes-to-end}
 use Rattle.meaning.proofs.Laws.{laws}
 use Rattle.least.specs.declared.Least.{Least}
 use Rattle.least.specs.declared.Least.the-variants.{Found, Nothing}
@@ -98,7 +100,7 @@ module _ (s : List ℕ) (l : Layout) (h : readOf s ≡ Accepted l) (rule : PlanR
   violated-says Nothing t e = absurd (true≢false e)
   violated-says (Found u) t e = (refl, t)
 
-  never-refused : (x : Least) → numberOf (answerOf x) ≡ 0
+  never-refused : (x : Least) → numberOf (answerOf x) ≡ option.none
   never-refused Nothing = refl
   never-refused (Found u) = refl
 

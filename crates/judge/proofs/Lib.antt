@@ -2,6 +2,7 @@ pub mod Smallest
 pub mod PlanRuns
 pub mod Decoded
 pub mod Plain
+pub mod Codes
 pub mod Demand3
 pub mod Answer
 pub mod Areas

@@ -69,17 +69,21 @@ only-shown s l set bytes bytes′ x y =
     let long : length (recordBytes (shownRun bytes)) ≡ length (recordBytes (shownRun bytes′)) = ap length (sym (x .padded)) ∙ x .long ∙ sym (y .long) ∙ ap length (y .padded) in
     x .padded ∙ only-plainest _ _ set (shownRun bytes) (shownRun bytes′) (x .plainest) (y .plainest) long ∙ sym (y .padded)
 
+-- the set beside a run that is shown is left by it, and so has the plan's actions only
+left : (s old new : List ℕ) (set : ℕ) (r : Recorded s set old new) → LeftBy (bytesOf s (r .layout .types)) (bytesOf s (r .layout .nodes)) set
+left s old new set r =
+    let p = r .shows .plainest in
+    record { run = shownRun (r .bytes); status = p .status; complete = p .complete; leaves = p .leaves }
+
+pub given-small : (s old new : List ℕ) (set : ℕ) → Recorded s set old new → set < 2 ^ mostActions
+given-small s old new set r = left-small _ _ (runnable s (r .layout) (r .accepted)) set (left s old new set r)
+
 -- so the record area is the one that is computed
 pub record-is : RecordIs
 record-is s work work′ old new v j = go v (j .record-after)
   where
-    left : (set : ℕ) (r : Recorded s set old new) → LeftBy (bytesOf s (r .layout .types)) (bytesOf s (r .layout .nodes)) set
-    left set r =
-        let p = r .shows .plainest in
-        record { run = shownRun (r .bytes); status = p .status; complete = p .complete; leaves = p .leaves }
-
     shown : (set : ℕ) (r : Recorded s set old new) → r .bytes ≡ shownOn s (readOf s) set
-    shown set r = only-shown s (r .layout) set (r .bytes) _ (r .shows) (shows-plainest s (r .layout) (r .accepted) set (left set r)) ∙ ap (λ (x : Reading). shownOn s x set) (sym (r .accepted))
+    shown set r = only-shown s (r .layout) set (r .bytes) _ (r .shows) (shows-plainest s (r .layout) (r .accepted) set (left s old new set r)) ∙ ap (λ (x : Reading). shownOn s x set) (sym (r .accepted))
 
     go : (v : Judgement) → RecordAfter s v old new → new ≡ recordFor s v old
     go Consistent e = e

@@ -5,6 +5,7 @@ use mathlib.Core.Path.{_≡_}
 use mathlib.Core.Bool.{Bool, true, false}
 use mathlib.Core.List.{List}
 use mathlib.Core.Logic.{_↔_}
+use mathlib.Core.Option.{none, some}
 use Prim.Native.Nat.{ℕ, _≤_, _<_}
 use lib.ListN.{length, take}
 use Rattle.process.specs.Process.{Status, Run}
@@ -51,7 +52,7 @@ pub record Violation (s : List ℕ) (l : Layout) (rule : PlanRule s l) (set : �
 
 -- What an answer says, of an accepted plan file.
 pub record Says (s : List ℕ) (l : Layout) (rule : PlanRule s l) (new : List ℕ) (v : Judgement) : Type 0 where
-  pub not-refused : numberOf v ≡ 0
+  pub not-refused : numberOf v ≡ none
   pub consistent : (saysConsistent v ≡ true) ↔ AllKeep s l rule
   pub violated : saysConsistent v ≡ false → Violation s l rule (setGiven v) (take recordSize new)
 
@@ -63,6 +64,6 @@ pub record Demand3 : Type 0 where
   pub only-shown : OnlyShown
   pub one-answer : OneAnswer
   -- every other input is refused: 10, then 12, then by the file's number
-  pub no-work : (s : List ℕ) (work records : ℕ) → work < workSize → numberOf (verdictOf s work records) ≡ 10
-  pub no-record : (s : List ℕ) (work records : ℕ) → workSize ≤ work → records < recordSize → numberOf (verdictOf s work records) ≡ 12
-  pub no-plan : (s : List ℕ) (work records : ℕ) → workSize ≤ work → recordSize ≤ records → (n : ℕ) → readOf s ≡ reading.Refused n → numberOf (verdictOf s work records) ≡ n
+  pub no-work : (s : List ℕ) (work records : ℕ) → work < workSize → numberOf (verdictOf s work records) ≡ some 10
+  pub no-record : (s : List ℕ) (work records : ℕ) → workSize ≤ work → records < recordSize → numberOf (verdictOf s work records) ≡ some 12
+  pub no-plan : (s : List ℕ) (work records : ℕ) → workSize ≤ work → recordSize ≤ records → (n : ℕ) → readOf s ≡ reading.Refused n → numberOf (verdictOf s work records) ≡ some n

@@ -2,6 +2,7 @@
 -- equates its answer with. Demand 3 says what it means for the runs of the plan.
 use mathlib.Core.Bool.{Bool, true, false, not, cond}
 use mathlib.Core.List.{List, [], _∷_}
+use mathlib.Core.Option.{Option, none, some}
 use Prim.Native.Nat.{ℕ, _+_, _%_}
 use lib.Dec.{ltb}
 use Rattle.plan.specs.Reading.{bytesOf, readOf}
@@ -52,11 +53,11 @@ recordSize = 126
 abbrev pub verdictOf : List ℕ → ℕ → ℕ → Judgement
 verdictOf s work records = cond (ltb work workSize) (Refused 10) (cond (ltb records recordSize) (Refused 12) (verdictOn s (readOf s)))
 
--- Document 01's number and values for each answer: the number of a refusal, 0 where there is none;
-abbrev pub numberOf : Judgement → ℕ
-numberOf Consistent = 0
-numberOf (Violated t) = 0
-numberOf (Refused n) = n
+-- Document 01's number and values for each answer: the number of a refusal, and of the others none;
+abbrev pub numberOf : Judgement → Option ℕ
+numberOf Consistent = none
+numberOf (Violated t) = none
+numberOf (Refused n) = some n
 
 -- whether it is "consistent";
 abbrev pub saysConsistent : Judgement → Bool

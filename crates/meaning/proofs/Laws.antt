@@ -1,14 +1,13 @@
 -- What is promised of a rule's value, put together.
 use mathlib.Core.Path.{ap}
 use mathlib.Core.List.{List}
-use Prim.Native.Nat.{ℕ}
 use Rattle.meaning.specs.declared.Value.{Value}
 use Rattle.meaning.specs.Value.{top, satisfies}
-use Rattle.meaning.specs.Laws.{Laws}
+use Rattle.meaning.specs.Laws.{RuleLaws}
 use Rattle.meaning.proofs.Literal.{counted, without-undo, with-undo, done, not-done, undone, undone-twice, undo-alone}
 use Rattle.meaning.proofs.Meaning.{one-part, opposite}
 
-pub laws : (pairs : List ℕ) (set : ℕ) → Laws pairs set
+pub laws : RuleLaws
 unfolding satisfies
 laws pairs set = record {
   counted = counted pairs set;

@@ -77,3 +77,7 @@ pub record Laws (pairs : List ℕ) (set : ℕ) : Type 0 where
   -- Where there are no pairs, the negative value of a rule is the opposite of its positive one.
   pub without-pairs : {actions : ℕ} {rule : List ℕ} (r : Rule actions rule) → pairCount pairs ≡ 0
       → meaning pairs set r .negative ≡ not (meaning pairs set r .positive)
+
+-- They hold whatever the pairs and the set.
+abbrev pub RuleLaws : Type 0
+RuleLaws = (pairs : List ℕ) (set : ℕ) → Laws pairs set

@@ -1,5 +1,6 @@
 // The run that a verdict shows beside a set: of the complete runs that leave it one with the fewest failed entries, and of these the one whose record bytes come first. It is built
 // entry by entry from the runner's own table of outcomes.
+use job::Job;
 use state::Entry;
 ghost use mathlib.Core.Path.{_≡_};
 ghost use Prim.Native.Nat.{_^_, _<_};
@@ -10,7 +11,7 @@ ghost use Rattle.fewest.specs.Costs.{unreached};
 ghost use Rattle.plainest.specs.Shown.{LeftBy, fits, outcomeFor, nextEntry, withEntry, plainestBytes};
 
 // The actions that a plan file may have.
-const ACTIONS: usize = 10;
+const ACTIONS: usize = Job::MOST_ACTIONS as usize;
 
 // Whether with the outcome o of leaf n there is still a run that leaves the set with k failed entries, and none with fewer.
 fn fits(

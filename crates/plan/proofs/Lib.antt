@@ -11,3 +11,4 @@ pub mod InBlocks
 pub mod Largest
 pub mod Demand1
 pub mod Inside
+pub mod PlanTraces

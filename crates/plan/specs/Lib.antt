@@ -3,3 +3,4 @@ pub mod PlanFile
 pub mod Refusals
 pub mod Tree
 pub mod Demand1
+pub mod Traces

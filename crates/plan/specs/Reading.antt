@@ -2,6 +2,7 @@
 -- contents; nodes are checked for 6, then 7, then 8. Trailing bytes come last."
 use mathlib.Core.Bool.{Bool, false, cond}
 use mathlib.Core.List.{List}
+use mathlib.Core.Option.{Option, none, some}
 use Prim.Native.Nat.{ℕ, _+_, _*_, _%_}
 use lib.Dec.{leb, eqb}
 use lib.ListN.{length, take, drop}
@@ -95,7 +96,7 @@ readWithin actionLimit pairLimit s = onBlock (blockAt s 0 1 actionLimit 0) (with
 abbrev pub readOf : List ℕ → Reading
 readOf s = readWithin mostActions mostPairs s
 
--- document 01's number for each answer: 0 stands for none
-abbrev pub numberOf : Reading → ℕ
-numberOf (reading.Accepted l) = 0
-numberOf (reading.Refused n) = n
+-- document 01's number for each answer: a refusal has its number and an acceptance none, so that no number passes for an acceptance
+abbrev pub numberOf : Reading → Option ℕ
+numberOf (reading.Accepted l) = none
+numberOf (reading.Refused n) = some n

@@ -4,6 +4,7 @@ use blocks::Part;
 ghost use mathlib.Core.Path.{_≡_};
 ghost use Prim.Native.Nat.{_≤_, _+_};
 ghost use lib.ListN.{length};
+ghost use Rattle.plan.specs.PlanFile.{Bytes};
 ghost use Rattle.plan.specs.Reading.{bytesOf, lengthOk, fault, judged, bodyAt, blockAt, endOf, withRule, withNodes, withPairs, withTypes, readWithin, readOf};
 
 // The limits of a plan file.
@@ -175,9 +176,10 @@ fn with_types(file: &[u8], pair_limit: u8, types: Part) -> Reading
     }
 }
 
-// Reads a file of at most `action_limit` actions and `pair_limit` pairs.
+// Reads a file of at most `action_limit` actions and `pair_limit` pairs. Whatever a caller lends is what the promises call bytes.
 pub fn read_within(file: &[u8], action_limit: u8, pair_limit: u8) -> Reading
     ensures { λ r. ⌜ r ≡ readWithin «action_limit» «pair_limit» (now (file .entry)) ⌝ }
+    ensures { λ r. ⌜ Bytes (now (file .entry)) ⌝ }
 {
     match block_at(file, 0, 1, action_limit, 0) {
         Block::Refused(n) => Reading::Refused(n),

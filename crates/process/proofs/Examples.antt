@@ -9,7 +9,7 @@ use lib.ListN.{length, length-append}
 use Rattle.process.specs.Process.{Status, ok, fail, Kind, finishes, fails, either, permits, sequence, parallel, choice, compensation, handler, Process, done, leaf, node, entry, Run}
 use Rattle.process.specs.Figure2.{Interleaving, from-left, from-right, neither, Forward, f-done, f-leaf, f-sequence, f-sequence-fails, f-parallel, f-choice-left, f-choice-right, f-compensation, f-compensation-fails, f-handler, f-handler-fails, Complete, c-ok, c-fail}
 
-not-both : {A : Type 0} {test : Bool} → test ≡ true → test ≡ false → A
+pub not-both : {A : Type 0} {test : Bool} → test ≡ true → test ≡ false → A
 not-both p q = absurd (true≢false (sym p ∙ q))
 
 -- Example 1. SimpleOrder = Billing ; ProcessOrder, Billing = Charge ÷ Credit. Charge and ProcessOrder may fail, Credit may not.
@@ -106,7 +106,7 @@ data BesideComplete : Run → Status → Type 0 where
   thrown-first : BesideComplete (entry 0 fail ∷ entry 1 ok ∷ []) fail
   thrown-last : BesideComplete (entry 1 ok ∷ entry 0 fail ∷ []) fail
 
-not-ok : {A : Type 0} → fail ≡ ok → A
+pub not-ok : {A : Type 0} → fail ≡ ok → A
 not-ok e = not-both {test = permits finishes ok} refl (ap (permits finishes) (sym e))
 
 no-undos : {r : Run} {s : Status} → Complete (node parallel done done) r s → r ≡ []

@@ -1,2 +1,4 @@
 pub mod Interleavings
 pub mod Examples
+pub mod Traces
+pub mod TraceExamples

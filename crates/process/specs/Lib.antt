@@ -3,3 +3,4 @@ pub mod Figure2
 pub mod Forms
 pub mod Leaves
 pub mod Depth
+pub mod Traces

@@ -32,7 +32,7 @@ module _ (text p types pairs nodes : List ℕ) (t : TypedInto text p types pairs
 pub typed-plans : TypedPlans
 typed-plans = record {
   taken = λ text p types pairs nodes t h.
-      demand-1 .reading (fileOf types pairs nodes p) (t .bytes) .in-order .1
+      demand-1 .accepting (fileOf types pairs nodes p) (t .bytes)
       (record {
         types = types;
         pairs = pairs;
@@ -47,7 +47,7 @@ typed-plans = record {
         };
       });
   nine = λ text p types pairs nodes t h.
-      demand-1 .reading (fileOf types pairs nodes p) (t .bytes) .broken 9 (omega arith) .1
+      demand-1 .reading (fileOf types pairs nodes p) (t .bytes) .broken 9 .1
       (in-rule types pairs nodes (block 4 p) refl (t .types-hold) (t .pairs-hold) (t .nodes-hold)
       (contents p [] (sym (append-nil (block 4 p))) (size text p types pairs nodes t) (broken (λ r. h (typed-rules .letters text p (length types) (typed text p types pairs nodes t) .0 r)))));
 }

@@ -3,3 +3,5 @@ pub mod Runner
 pub mod Verdict
 pub mod TypedPlans
 pub mod Promises
+pub mod Foundations
+pub mod Examples

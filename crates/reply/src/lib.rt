@@ -1,7 +1,7 @@
 // What is said to a rule as people type it: a line with its bytes in postfix order, or `refused` and document 02's number for why.
 ghost use mathlib.Core.Path.{_≡_};
 ghost use Prim.Native.Nat.{_+_, _≤_, _<_, min};
-ghost use lib.ListN.{length};
+ghost use lib.ListN.{length, replicate};
 ghost use Rattle.text.specs.Lines.{each};
 ghost use Rattle.text.specs.Text.{appended, textOf};
 ghost use Rattle.reply.specs.Line.{hex, hexDigit, item, itemAt, lineFor};
@@ -13,9 +13,10 @@ use text::Text;
 // The longest text that is read.
 const LONGEST: usize = 65536;
 
-// Room for the longest text, a newline after it, and a byte more: so an input that is cut there is too long.
+// Room for the longest text, a newline after it, and a byte more, all 0: so an input that is cut there is too long.
 pub fn room() -> [u8; 65538]
     ensures { λ r. ⌜ longest + 2 ≡ length r ⌝ }
+    ensures { λ r. ⌜ r ≡ replicate (longest + 2) 0 ⌝ }
 {
     [0; LONGEST + 2]
 }

@@ -10,13 +10,11 @@ use Rattle.text.specs.Decimal.{decimal}
 use Rattle.text.specs.Lines.{numbered, refused}
 use Rattle.text.proofs.Decimals.{decimal-of-byte}
 use Rattle.text.proofs.Ends.{numbered-length, numbered-short}
-use Rattle.plan.specs.declared.Reading.{Reading}
-use Rattle.plan.specs.declared.Reading.the-variants as reading
 use Rattle.state.specs.declared.Entry.{Entry}
 use Rattle.judge.specs.Shown.{shownEntries}
 use Rattle.judge.specs.declared.Judgement.{Judgement}
 use Rattle.judge.specs.declared.Judgement.the-variants.{Consistent, Violated, Refused}
-use Rattle.report.specs.Lines.{entryLines, runLines, verdictLines, inspectLine, violated}
+use Rattle.report.specs.Lines.{entryLines, runLines, verdictLines, violated}
 
 entry-length : (leaf outcome : ℕ) → leaf < 256 → outcome < 256 → length (numbered (decimal leaf) outcome) ≤ 8
 entry-length leaf outcome h k = omega (arith, numbered-length (decimal leaf) outcome, decimal-of-byte leaf (omega arith), decimal-of-byte outcome (omega arith))
@@ -44,7 +42,3 @@ pub verdict-length : (v : Judgement) (run : List ℕ) → length run ≡ 126 →
 verdict-length Consistent run e h = omega arith
 verdict-length (Violated set) run e h = rw (length-append (numbered violated set) (runLines run)) (omega (arith, numbered-short violated set (omega arith), run-length run h))
 verdict-length (Refused n) run e h = omega (arith, numbered-short refused n (omega arith))
-
-pub inspect-length : (r : Reading) → length (inspectLine r) ≤ 640
-inspect-length (reading.Accepted l) = omega arith
-inspect-length (reading.Refused n) = omega (arith, numbered-short refused n (omega arith))

@@ -1,11 +1,9 @@
--- The lines that the programs write, as bytes, in document 01's words.
+-- The lines of a verdict, as bytes, in document 01's words.
 use mathlib.Core.List.{List, [], _∷_, _++_}
 use Prim.Native.Nat.{ℕ}
 use Rattle.text.specs.Decimal.{decimal}
 use Rattle.text.specs.Lines.{line, numbered, refused}
 use Rattle.text.specs.Text.{ascii}
-use Rattle.plan.specs.declared.Reading.{Reading}
-use Rattle.plan.specs.declared.Reading.the-variants as reading
 use Rattle.state.specs.declared.Entry.{Entry}
 use Rattle.judge.specs.Shown.{shownEntries}
 use Rattle.judge.specs.declared.Judgement.{Judgement}
@@ -16,9 +14,6 @@ consistent = ascii "consistent"
 
 abbrev pub violated : List ℕ
 violated = ascii "violated"
-
-abbrev pub accepted : List ℕ
-accepted = ascii "accepted"
 
 -- "leaf and outcome"
 abbrev pub entryLine : Entry → List ℕ
@@ -38,8 +33,3 @@ abbrev pub verdictLines : Judgement → List ℕ → List ℕ
 verdictLines Consistent bytes = line consistent
 verdictLines (Violated set) bytes = numbered violated set ++ runLines bytes
 verdictLines (Refused n) bytes = numbered refused n
-
--- What is written of a file that is read and not judged.
-abbrev pub inspectLine : Reading → List ℕ
-inspectLine (reading.Accepted l) = line accepted
-inspectLine (reading.Refused n) = numbered refused n

@@ -10,8 +10,6 @@ use judge::Finding;
 use judge::Judgement;
 use text::Text;
 
-pub mod inspection;
-
 // Leaf and outcome on a line more.
 fn put_entry(t: Text, leaf: u8, outcome: u8) -> Text
     ensures { λ r. ⌜ r ≡ appended t (numbered (decimal leaf) outcome) ⌝ }

@@ -4,7 +4,6 @@ use mathlib.Core.Path.{_≡_, refl, ap, ap₂, _∙_}
 use mathlib.Core.Bool.{Bool, true, false, not, _&&_, _||_}
 use mathlib.Core.List.{List}
 use Prim.Native.Nat.{ℕ, zero, suc, _+_, _-_, _*_, _/_, _%_, _^_, _<_, max, min}
-use native.Mathlib.Nat.{mod-lt, div-add-mod'}
 use native.Mathlib.Omega.{arith}
 use lib.Bits.{bitOr, bitAnd, or-lt}
 use lib.Dec.{leb, eqb}
@@ -50,14 +49,6 @@ module _ {w : ℕ} where
 
   pub tells-same : {p : ℕ} {f g : ℕ → Bool} → ((i : ℕ) → i < 64 → f (w * 64 + i) ≡ g (w * 64 + i)) → Tells w p f → Tells w p g
   tells-same same hp = record { bits = λ i l. hp .bits i l ∙ ap one (same i l) }
-
--- one set's answer
-is-one : (a : Bool) → eqb (one a) 1 ≡ a
-is-one true = refl
-is-one false = refl
-
-pub told-of : {r : ℕ} {f : ℕ → Bool} (set : ℕ) → Tells (set / 64) r f → eqb (bitAt r (set % 64)) 1 ≡ f set
-told-of {r} {f} set h = rw (h .bits (set % 64) (mod-lt set (omega arith)), div-add-mod' set 64) (is-one (f set))
 
 -- the two values of a part
 module _ {w : ℕ} where

@@ -109,7 +109,7 @@ fn stepped(
     }
 }
 
-// Which sets of word w satisfy the rule: bit i for the set 64 w + i.
+// Which sets of word w satisfy the rule: bit i for the set 64 w + i. Every masks are those of some pairs (`EveryMasks` of `undos`), so this fixes the answer.
 pub fn satisfying(rule: &[u8], masks: &[u64; 256], w: u32) -> u64
     ensures { λ r. ⌜ ((pairs : List ℕ) → Masks pairs (now (masks .entry)) → Tells w r (λ set. satisfies (now (rule .entry)) pairs set)) ⌝ }
 {
@@ -122,11 +122,4 @@ pub fn satisfying(rule: &[u8], masks: &[u64; 256], w: u32) -> u64
         i += 1;
     }
     positives[top]
-}
-
-// Whether one set satisfies the rule: bit a of the set is there where action a finished.
-pub fn satisfies(rule: &[u8], masks: &[u64; 256], set: u32) -> bool
-    ensures { λ r. ⌜ ((pairs : List ℕ) → Masks pairs (now (masks .entry)) → r ≡ satisfies (now (rule .entry)) pairs set) ⌝ }
-{
-    (satisfying(rule, masks, set / 64) >> (set % 64)) % 2 == 1
 }

@@ -1,12 +1,14 @@
 -- What is heard of the input: one turn of the loop over the bytes of a read, and a whole line.
-use mathlib.Core.Path.{_≡_, refl}
+use mathlib.Core.Path.{_≡_, refl, ap}
 use mathlib.Core.Bool.{Bool, true, false, cond}
-use mathlib.Core.List.{List, [], _∷_}
+use mathlib.Core.List.{List, [], _∷_, _++_}
+use mathlib.Core.Logic.{_⊎_, inl, inr}
 use Prim.Native.Nat.{ℕ, _+_, _-_, _*_, _≤_, _<_}
 use native.Mathlib.Numerals.{add-one}
 use lib.Dec.{ltb, eqb}
 use lib.ListN.{length, getD, drop, drop-of-length-le}
 use lib.Seq.{drop-cons}
+use borrow.Author.Tests.{eqb-true}
 use Rattle.job.specs.declared.Job.{Job}
 use Rattle.session.specs.Line.{largest, digitAfter, freshLine, lineAfter, lineOf, begunWith, begun, entryIn}
 use Rattle.session.specs.Session.{nextLine, answeredTo, heardByte, heardAll, heardEnd, OneLine, AnswersLines}
@@ -70,5 +72,16 @@ last : (j : Job) (b : ℕ) (line : List ℕ) → OneLine (b ∷ line) → heardE
 unfolding lineOf
 last j b line one = rw (heard-line j freshLine (b ∷ line) one, begun-line (lineAfter freshLine b) line (begun-after freshLine b))
 
+-- an input up to its first newline
+first-line : (input : List ℕ) → OneLine input ⊎ ((line : List ℕ) × (rest : List ℕ) × OneLine line × (input ≡ line ++ (10 ∷ rest)))
+first-line [] = inl tt
+first-line (b ∷ bs) = go (eqb b 10) refl (first-line bs)
+  where
+    go : (z : Bool) → eqb b 10 ≡ z → OneLine bs ⊎ ((line : List ℕ) × (rest : List ℕ) × OneLine line × (bs ≡ line ++ (10 ∷ rest)))
+        → OneLine (b ∷ bs) ⊎ ((line : List ℕ) × (rest : List ℕ) × OneLine line × (b ∷ bs ≡ line ++ (10 ∷ rest)))
+    go true e x = inr ([], bs, tt, ap (λ (n : ℕ). n ∷ bs) (eqb-true b 10 e))
+    go false e (inl one) = inl (e, one)
+    go false e (inr (line, rest, one, is)) = inr (b ∷ line, rest, (e, one), ap (λ (xs : List ℕ). b ∷ xs) is)
+
 pub answers-lines : AnswersLines
-answers-lines = record { quiet = λ j line b h. rw h; answer = λ j line one. rw (heard-line j freshLine line one); last-line = last; no-line = λ j. refl }
+answers-lines = record { lines = first-line; quiet = λ j line b h. rw h; answer = λ j line one. rw (heard-line j freshLine line one); last-line = last; no-line = λ j. refl }

@@ -1,7 +1,8 @@
 -- What is said to the bytes of the input, one after the other: a newline ends a line, and each line is answered once, in its turn.
 -- The answer to an entry is the runner's own, and the job that it hands back goes on.
 use mathlib.Core.Bool.{false, cond}
-use mathlib.Core.List.{List, [], _∷_}
+use mathlib.Core.List.{List, [], _∷_, _++_}
+use mathlib.Core.Logic.{_⊎_}
 use mathlib.Core.Path.{_≡_}
 use Prim.Native.Nat.{ℕ}
 use lib.Dec.{eqb}
@@ -78,6 +79,8 @@ OneLine (b ∷ bs) = (eqb b 10 ≡ false) × OneLine bs
 
 -- A line and its newline, from the start of a line on: nothing is said before the newline, and then what the line as a whole is answered.
 pub record AnswersLines : Type 0 where
+  -- every input is one line, or begins with one and its newline
+  pub lines : (input : List ℕ) → OneLine input ⊎ ((line : List ℕ) × (rest : List ℕ) × OneLine line × (input ≡ line ++ (10 ∷ rest)))
   pub quiet : (j : Job) (line : List ℕ) (b : ℕ) → eqb b 10 ≡ false → heardByte (heardAll (nextLine j) line) b .say ≡ Nothing
   pub answer : (j : Job) (line : List ℕ) → OneLine line → heardByte (heardAll (nextLine j) line) 10 ≡ answeredTo j (entryIn (lineOf freshLine line))
   -- the end of the input ends a line of which a byte has come, and no other

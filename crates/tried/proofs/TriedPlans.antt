@@ -152,8 +152,30 @@ rows-hold ps t told p m =
     let (sets, v) = both-hold (sameSets p (readOf (p .file))) _ (each-at agrees t m) in
     row-holds p (readOf (p .file)) refl sets (same-verdict _ _ v) (all-at told m)
 
+-- the first row of a table, and the rows after it
+here : (p : TriedPlan) (ps : List TriedPlan) → ((q : TriedPlan) → List·Memᴰ q (p ∷ ps) → Holds q) → Holds p
+here p ps h = h p (List·Memᴰ·head refl)
+
+after : (p : TriedPlan) (ps : List TriedPlan) → ((q : TriedPlan) → List·Memᴰ q (p ∷ ps) → Holds q) → (q : TriedPlan) → List·Memᴰ q ps → Holds q
+after p ps h q m = h q (List·Memᴰ·tail m)
+
 pub tried-plans : TriedPlans
-tried-plans = rows-hold triedPlans tested told
+tried-plans =
+    let r1 = rows-hold triedPlans tested told in
+    let r2 = after _ _ r1 in
+    let r3 = after _ _ r2 in
+    let r4 = after _ _ r3 in
+    let r5 = after _ _ r4 in
+    let r6 = after _ _ r5 in
+    let r7 = after _ _ r6 in
+    let r8 = after _ _ r7 in
+    record { rows = r1; starred = refl; eight = (here _ _ r1, here _ _ r2, here _ _ r3, here _ _ r4, here _ _ r5, here _ _ r6, here _ _ r7, here _ _ r8) }
 
 pub nested-plans : NestedPlans
-nested-plans = rows-hold nestedPlans nested-tested nested-told
+nested-plans =
+    let r1 = rows-hold nestedPlans nested-tested nested-told in
+    let r2 = after _ _ r1 in
+    let r3 = after _ _ r2 in
+    let r4 = after _ _ r3 in
+    let r5 = after _ _ r4 in
+    record { rows = r1; nested = refl; five = (here _ _ r1, here _ _ r2, here _ _ r3, here _ _ r4, here _ _ r5) }

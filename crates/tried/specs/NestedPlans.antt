@@ -1,6 +1,8 @@
 -- The second table of tried plans, of request N14: plans with a compensation in an undo side. Letters are actions in order of appearance; there are no pairs, and the rule is
 -- action 0.
 use mathlib.Core.List.{List, [], _∷_, List·Memᴰ}
+use mathlib.Core.Path.{_≡_}
+use lib.ListN.{length}
 use Rattle.text.specs.Text.{ascii}
 use Rattle.judge.specs.declared.Judgement.the-variants.{Consistent}
 use Rattle.tried.specs.TriedPlans.{TriedPlan, Holds}
@@ -53,6 +55,8 @@ q5 = record {
 abbrev pub nestedPlans : List TriedPlan
 nestedPlans = q1 ∷ q2 ∷ q3 ∷ q4 ∷ q5 ∷ []
 
--- Each row holds; the proof is `nested-plans`.
-abbrev pub NestedPlans : Type 0
-NestedPlans = (p : TriedPlan) → List·Memᴰ p nestedPlans → Holds p
+-- Each row of the table holds, it has five, and each of these does; the proof is `nested-plans`.
+pub record NestedPlans : Type 0 where
+  pub rows : (p : TriedPlan) → List·Memᴰ p nestedPlans → Holds p
+  pub nested : length nestedPlans ≡ 5
+  pub five : Holds q1 × Holds q2 × Holds q3 × Holds q4 × Holds q5

@@ -114,6 +114,8 @@ p8 = record {
 abbrev pub triedPlans : List TriedPlan
 triedPlans = p1 ∷ p2 ∷ p3 ∷ p4 ∷ p5 ∷ p6 ∷ p7 ∷ p8 ∷ []
 
--- Each row holds; the proof is `tried-plans`.
-abbrev pub TriedPlans : Type 0
-TriedPlans = (p : TriedPlan) → List·Memᴰ p triedPlans → Holds p
+-- Each row of the table holds, it has eight, and each of these does; the proof is `tried-plans`.
+pub record TriedPlans : Type 0 where
+  pub rows : (p : TriedPlan) → List·Memᴰ p triedPlans → Holds p
+  pub starred : length triedPlans ≡ 8
+  pub eight : Holds p1 × Holds p2 × Holds p3 × Holds p4 × Holds p5 × Holds p6 × Holds p7 × Holds p8

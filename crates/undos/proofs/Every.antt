@@ -17,7 +17,7 @@ use Rattle.bodies.specs.Pairs.{pairCount}
 use Rattle.family.specs.Family.{bitAt}
 use Rattle.family.proofs.Numbers.{same-or-other, below-or-above}
 use Rattle.family.proofs.Bits.{bit-small}
-use Rattle.undos.specs.Masks.{bit, undosIn, Masks}
+use Rattle.undos.specs.Masks.{bit, undosIn, Masks, EveryMasks}
 
 -- pairs that are appended leave the undos of the first ones
 undos-append : (p q : List ℕ) (a n : ℕ) → 2 * n ≤ length p → undosIn n (p ++ q) a ≡ undosIn n p a
@@ -114,8 +114,11 @@ module _ (masks : List ℕ) (words : (a : ℕ) → getD masks a 0 < 2 ^ 64) wher
     | inr off ↦ built-without n (built n) (omega (arith, bit-small (getD masks (n / 64) 0) (n % 64)))
   ]
 
-  pub every-masks : (pairs : List ℕ) × Masks pairs masks
-  every-masks =
+  some-pairs : (pairs : List ℕ) × Masks pairs masks
+  some-pairs =
       let b = built (256 * 64) in
       let e : pairCount (b .pairs) ≡ b .count = omega (arith, b .long) in
       (b .pairs, record { undos = λ a l. rw e (sym (b .undos a ∙ whole a (256 * 64 - 64 * a) (omega arith))) })
+
+pub every-masks : EveryMasks
+every-masks = some-pairs

@@ -29,3 +29,8 @@ withUndo masks a undo = set masks a (bitOr (getD masks a 0) (bit undo))
 -- The masks are those of the pairs: one for each number that a byte can be.
 pub record Masks (pairs masks : List ℕ) : Type 0 where
   pub undos : (a : ℕ) → a < 256 → getD masks a 0 ≡ undosIn (pairCount pairs) pairs a
+
+-- Every array of 64-bit words is the masks of some pairs: so a contract that holds "wherever the masks are those of the pairs", as that of
+-- `rule::satisfying` does, fixes the answer for every array that is lent. The proof is `every-masks`.
+abbrev pub EveryMasks : Type 0
+EveryMasks = (masks : List ℕ) → ((a : ℕ) → getD masks a 0 < 2 ^ 64) → (pairs : List ℕ) × Masks pairs masks

@@ -1,19 +1,20 @@
--- A vector of the group `formulas` agrees exactly where what it expects is what its text gets: the bytes that are alike are counted up to the first that is not.
+-- A vector agrees exactly where what it expects is what the product gives: the bytes that are alike are counted up to the first that is not.
 use mathlib.Core.Path.{_≡_, refl, sym}
-use mathlib.Core.Bool.{true, false}
+use mathlib.Core.Bool.{true, false, cond}
 use mathlib.Core.List.{List}
 use mathlib.Core.Logic.{_⊎_, inl, inr}
 use Prim.Native.Nat.{ℕ, zero, suc, _+_, _≤_, _<_}
 use native.Mathlib.Omega.{arith}
 use lib.Dec.{ltb, eqb}
-use lib.ListN.{length, getD, drop}
-use borrow.Author.Tests.{eq-eqb, le-ltb, ltb-true, ltb-false, eqb-true}
+use lib.ListN.{length, getD}
+use borrow.Author.Tests.{eq-eqb, ne-eqb, le-ltb, ltb-true, ltb-false, eqb-true, eqb-false}
 use Rattle.blocks.proofs.Bounded.{decide}
 use Rattle.fields.specs.Number.{fourAt}
-use Rattle.formula.specs.Answer.{room, answerOf}
-use Rattle.vectors.specs.Outcome.{heldAgainst, alike}
-use Rattle.vectors.specs.Formulas.{codeOf, formulasOutcome, Agreed, AgreesAlone}
-use Rattle.vectors.specs.declared.outcome.Outcome.the-variants.{Agrees}
+use Rattle.vectors.specs.Outcome.{heldAgainst, alike, answerHeld}
+use Rattle.vectors.specs.Files.{filesOutcome}
+use Rattle.vectors.specs.Agrees.{FileAgreed, Agreed, AgreesAlone}
+use Rattle.vectors.specs.declared.outcome.Outcome.{Outcome}
+use Rattle.vectors.specs.declared.outcome.Outcome.the-variants.{Agrees, Damaged}
 
 module _ (shown body : List ℕ) (at : ℕ) where
   -- m bytes from i on are alike
@@ -49,31 +50,49 @@ held-alone e f = go (decide (eqb e f))
     go (inl h) k = eqb-true e f h
     go (inr h) k = absurd (let l = rw h at k in let z : _≡_ {A = ℕ} 0 1 = cc in omega arith)
 
-module _ (body : List ℕ) where
-  abbrev found : ℕ
-  found = codeOf (answerOf (drop 131 body) .answer)
+held-same : (e f : ℕ) → e ≡ f → heldAgainst e f ≡ Agrees
+held-same e f h = rw (eq-eqb e f h)
 
-  abbrev shown : List ℕ
-  shown = answerOf (drop 131 body) .bytes
+module _ (found n : ℕ) (shown : List ℕ) (at : ℕ) (body : List ℕ) where
+  abbrev outcome : Outcome
+  outcome = cond (ltb (length body) 131) Damaged (answerHeld (fourAt body 0) found n shown body at)
 
-  agreed : formulasOutcome body ≡ Agrees → Agreed body
+  agreed : outcome ≡ Agrees → Agreed found n shown at body
   agreed = go (decide (ltb (length body) 131)) (decide (eqb (fourAt body 0) found))
     where
-      go : (ltb (length body) 131 ≡ true) ⊎ (ltb (length body) 131 ≡ false) → (eqb (fourAt body 0) found ≡ true) ⊎ (eqb (fourAt body 0) found ≡ false) → formulasOutcome body ≡ Agrees → Agreed body
-      go (inl h) n k = absurd (let l = rw h at k in let z : _≡_ {A = ℕ} 0 1 = cc in omega arith)
-      go (inr h) (inr n) k = absurd (let l = rw (h, n) at k in let z : _≡_ {A = ℕ} 0 1 = cc in omega arith)
-      go (inr h) (inl n) k =
-          let e = held-alone room (alike room 0 shown body 4) (rw (h, n) at k) in
+      go : (ltb (length body) 131 ≡ true) ⊎ (ltb (length body) 131 ≡ false) → (eqb (fourAt body 0) found ≡ true) ⊎ (eqb (fourAt body 0) found ≡ false) → outcome ≡ Agrees → Agreed found n shown at body
+      go (inl h) m k = absurd (let l = rw h at k in let z : _≡_ {A = ℕ} 0 1 = cc in omega arith)
+      go (inr h) (inr m) k = absurd (let l = rw (h, m) at k in let z : _≡_ {A = ℕ} 0 1 = cc in omega arith)
+      go (inr h) (inl m) k =
+          let e = held-alone n (alike n 0 shown body at) (rw (h, m) at k) in
           record {
             whole = ltb-false (length body) 131 h;
-            number = eqb-true (fourAt body 0) found n;
-            bytes = λ i l. all-counted shown body 4 room 0 (omega arith) i (omega arith) (omega arith);
+            number = eqb-true (fourAt body 0) found m;
+            bytes = λ i l. all-counted shown body at n 0 (omega arith) i (omega arith) (omega arith);
           }
 
-  agrees : Agreed body → formulasOutcome body ≡ Agrees
+  agrees : Agreed found n shown at body → outcome ≡ Agrees
   agrees a =
-      let e = counts-all shown body 4 room 0 (λ j k l. a .bytes j (omega arith)) in
-      rw (le-ltb (length body) 131 (a .whole), eq-eqb _ _ (a .number), e) refl
+      let e : alike n 0 shown body at ≡ 0 + n = counts-all shown body at n 0 (λ j k l. a .bytes j (omega arith)) in
+      rw (le-ltb (length body) 131 (a .whole), eq-eqb _ _ (a .number)) (held-same n (alike n 0 shown body at) (omega arith))
+
+positive : (n : ℕ) → (n ≡ 0 → ⊥) → 1 ≤ n
+positive zero h = absurd (h refl)
+positive (suc n) h = omega arith
+
+file-agreed : (body : List ℕ) → filesOutcome body ≡ Agrees → FileAgreed body
+file-agreed body = go (decide (eqb (length body) 0))
+  where
+    go : (eqb (length body) 0 ≡ true) ⊎ (eqb (length body) 0 ≡ false) → filesOutcome body ≡ Agrees → FileAgreed body
+    go (inl h) k = absurd (let l = rw h at k in let z : _≡_ {A = ℕ} 0 1 = cc in omega arith)
+    go (inr h) k = record { some = positive (length body) (eqb-false (length body) 0 h); number = held-alone _ _ (rw h at k) }
+
+file-agrees : (body : List ℕ) → FileAgreed body → filesOutcome body ≡ Agrees
+file-agrees body a = rw (ne-eqb (length body) 0 (λ e. omega (arith, a .some, e))) (held-same _ _ (a .number))
 
 pub agrees-alone : AgreesAlone
-agrees-alone = record { exactly = λ body. (agreed body, agrees body) }
+agrees-alone = record {
+  files = λ body. (file-agreed body, file-agrees body);
+  verdicts = λ body. (agreed _ _ _ _ body, agrees _ _ _ _ body);
+  formulas = λ body. (agreed _ _ _ _ body, agrees _ _ _ _ body);
+}

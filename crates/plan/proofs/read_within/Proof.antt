@@ -1,4 +1,4 @@
--- `plan::read_within` meets its contract: what the block is decides, as the definition goes by it; where its body lies, it lies inside.
+-- `plan::read_within` meets its contract: what the block is decides, as the definition goes by it; where its body lies, it lies inside. A lent byte fits its type.
 use mathlib.Core.Path.{sym, _∙_}
 use native.Mathlib.Omega.{arith}
 use borrow.Author.Needs.{needs}
@@ -21,11 +21,12 @@ with-types-requires c κs =
     lying (a .file .now) 0 1 (a .action-limit) 0 (c .before .types .given .0 .0) (sym (c .before .before .before .block-at .ensures) ∙ c .before .types .given .1) .inside
 
 returns : tie.Need-returns
-returns c = rw (← c .before .before .before .block-at .ensures, c .before .n .given .1)
+returns c =
+    (rw (← c .before .before .before .block-at .ensures, c .before .n .given .1), λ i. c .before .before .before .before .shared-slice-known .given i .fits)
 
 returns-2 : tie.Need-returns-2
 returns-2 c =
-    rw (← c .before .before .before .before .block-at .ensures, c .before .before .types .given .1) (c .with-types .ensures)
+    (rw (← c .before .before .before .before .block-at .ensures, c .before .before .types .given .1) (c .with-types .ensures), λ i. c .before .before .before .before .before .shared-slice-known .given i .fits)
 
 pub read-within-spec : {M : Type 1} → statement M
 read-within-spec =

@@ -25,7 +25,7 @@ returns-2 : tie.Need-returns-2
 returns-2 c =
     let a = c .before .before .before .args in
     c .answered .ensures
-    ∙ ap heardAnswer (c .before .take .ensures)
+    ∙ ap heardAnswer (c .before .take .ensures .0)
     ∙ sym (ap (λ (t : Bool). cond t (heardNoEntry (a .job)) (heardAnswer (takeOf (a .job) (a .e)))) (c .before .before .if1 .left))
 
 pub hear-entry-spec : {M : Type 1} → statement M

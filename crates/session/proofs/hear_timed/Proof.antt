@@ -17,7 +17,7 @@ returns : tie.Need-returns
 returns c =
     let a = c .before .before .before .args in
     c .answered .ensures
-    ∙ ap heardAnswer (c .before .take-at .ensures)
+    ∙ ap heardAnswer (c .before .take-at .ensures .0)
     ∙ sym (ap (λ (t : Bool). cond t (heardAnswer (takeTimedOf (a .job) (a .e) (a .minute))) (heardNoEntry (a .job))) (c .before .before .if1 .taken))
 
 not-an-entry-requires : tie.Need-not-an-entry-requires

@@ -8,9 +8,14 @@ use borrow.Author.Needs.{needs}
 use borrow.Author.Tests.{not-true, not-false}
 use Rattle.plan.specs.PlanFile.{mostBytes}
 use Rattle.job.specs.Timed.{timedTidy}
+use Rattle.job.specs.TimedRunner.{Brings}
 use Rattle.job.proofs.Tidy.{timed-says}
 use Rattle.job.proofs.Job.take_at.Statement.{statement}
 use Rattle.job.proofs.Job.take_at.Tie as tie
+
+-- the minute is one of 32 bits
+brings : (c : tie.Start) → Brings (c .args .e) (c .args .minute)
+brings c = record { brought = record { entry = c .args .e; minute = c .args .minute; fits = omega (arith, c .fits .minute .fits) }; the-entry = refl; the-minute = refl }
 
 is-tidy-requires : tie.Need-is-tidy-requires
 is-tidy-requires c κs = search needs
@@ -19,7 +24,7 @@ refuse-requires : tie.Need-refuse-requires
 refuse-requires c κs = search needs
 
 returns : tie.Need-returns
-returns c = rw (sym (c .before .before .is-tidy .ensures) ∙ not-true _ (c .before .if1 .taken)) (c .refuse .ensures)
+returns c = (rw (sym (c .before .before .is-tidy .ensures) ∙ not-true _ (c .before .if1 .taken)) (c .refuse .ensures), brings (c .before .before .before))
 
 -- the job is timed and tidy
 passed : (c : tie.Else1) → timedTidy (c .before .before .args .self) ≡ true
@@ -43,7 +48,7 @@ take-in-requires c κs =
     (refl, t .neat .few, t .windows-fit)
 
 returns-2 : tie.Need-returns-2
-returns-2 c = rw (passed (c .before .before .before)) (c .take-in .ensures)
+returns-2 c = (rw (passed (c .before .before .before)) (c .take-in .ensures), brings (c .before .before .before .before .before))
 
 pub take-at-spec : {M : Type 1} → statement M
 take-at-spec =

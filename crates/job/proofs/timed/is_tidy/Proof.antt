@@ -16,14 +16,14 @@ zeros-from-requires c κs = search needs
 
 returns : tie.Need-returns
 returns c =
-    simp (c .before .before .before .before .before .before .if1 .taken, sym (c .before .before .before .before .before .is-tidy .ensures .0) ∙ c .before .before .before .before .if2 .taken, le-leb _ _ (c .before .before .if3 .taken), c .zeros-from .ensures)
+    simp (c .before .before .before .before .before .before .if1 .taken, sym (c .before .before .before .before .before .is-tidy .ensures) ∙ c .before .before .before .before .if2 .taken, le-leb _ _ (c .before .before .if3 .taken), c .zeros-from .ensures)
 
 returns-2 : tie.Need-returns-2
 returns-2 c =
-    simp (c .before .before .before .before .if1 .taken, sym (c .before .before .before .is-tidy .ensures .0) ∙ c .before .before .if2 .taken, lt-leb _ _ (c .if3 .left))
+    simp (c .before .before .before .before .if1 .taken, sym (c .before .before .before .is-tidy .ensures) ∙ c .before .before .if2 .taken, lt-leb _ _ (c .if3 .left))
 
 returns-3 : tie.Need-returns-3
-returns-3 c = simp (c .before .before .if1 .taken, sym (c .before .is-tidy .ensures .0) ∙ c .if2 .left)
+returns-3 c = simp (c .before .before .if1 .taken, sym (c .before .is-tidy .ensures) ∙ c .if2 .left)
 
 returns-4 : tie.Need-returns-4
 returns-4 c = search needs

@@ -55,7 +55,7 @@ returns-2 c =
     (sym (c .before .before .before .before .before .before .kept .ensures) ∙ not-false _ (c .before .before .before .before .before .if1 .left))
     (c .before .before .before .before .fault .ensures)
     (c .before .before .before .struck-out .ensures)
-    (c .before .before .take .ensures)
+    (c .before .before .take .ensures .0)
 
 pub take-with-spec : {M : Type 1} → statement M
 take-with-spec =

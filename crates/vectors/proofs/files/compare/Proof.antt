@@ -1,9 +1,11 @@
 -- `vectors::files::compare` meets its contract: the number expected is the first byte, and the number found is what the reader of plan files
 -- answers for the others.
 use mathlib.Core.Path.{ap, _∙_}
+use mathlib.Core.Option.{Option·getD}
 use borrow.Author.Needs.{needs}
 use borrow.Author.Tests.{eq-eqb, ne-eqb}
 use Rattle.plan.specs.Reading.{readOf, numberOf}
+use Rattle.plan.specs.declared.Reading.{Reading}
 use Rattle.vectors.proofs.Rest.{rest}
 use Rattle.vectors.proofs.files.compare.Statement.{statement}
 use Rattle.vectors.proofs.files.compare.Tie as tie
@@ -39,7 +41,7 @@ returns-2 : tie.Need-returns-2
 returns-2 c =
     let found = c .before .before .before in
     let start = found .before .before .before in
-    let number = found .number-of .ensures ∙ ap numberOf (found .before .read .ensures ∙ ap readOf (rest 1 (start .before .before .args .body .now))) in
+    let number = found .number-of .ensures ∙ ap (λ (x : Reading). Option·getD (numberOf x) 0) (found .before .read .ensures ∙ ap readOf (rest 1 (start .before .before .args .body .now))) in
     simp (c .held .ensures, c .before .wide .ensures .0, number, ne-eqb _ _ (start .if1 .left))
 
 pub compare-spec : {M : Type 1} → statement M

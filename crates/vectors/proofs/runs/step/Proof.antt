@@ -40,7 +40,7 @@ step-to-requires c κs = search needs
 
 returns : tie.Need-returns
 unfolding stepped
-returns c = rw (eq-eqb _ _ (c .before .before .before .if1 .taken), ← c .before .before .four-at .ensures .0, ← c .before .take-at .ensures) (c .step-to .ensures)
+returns c = rw (eq-eqb _ _ (c .before .before .before .if1 .taken), ← c .before .before .four-at .ensures .0, ← c .before .take-at .ensures .0) (c .step-to .ensures)
 
 take-requires : tie.Need-take-requires
 take-requires c κs = search needs
@@ -53,7 +53,7 @@ step-to-requires-2 c κs = search needs
 
 returns-2 : tie.Need-returns-2
 unfolding stepped
-returns-2 c = rw (ne-eqb _ _ (c .before .before .if1 .left), ← c .before .take .ensures) (c .step-to2 .ensures)
+returns-2 c = rw (ne-eqb _ _ (c .before .before .if1 .left), ← c .before .take .ensures .0) (c .step-to2 .ensures)
 
 pub step-spec : {M : Type 1} → statement M
 step-spec =
