@@ -9,22 +9,13 @@
 #include <stdio.h>
 #include <stdlib.h>
 #include <string.h>
-#include <time.h>
 
 #include "cases.h"
 #include "summary.h"
+#include "timing.h"
 #include "verdict.h"
 
-enum { ROUNDS = 41, ROUND_MICROSECONDS = 12000 };
-
 static uint8_t work[WORK], record[RECORD];
-
-static double microseconds(void)
-{
-    struct timespec t;
-    clock_gettime(CLOCK_PROCESS_CPUTIME_ID, &t);
-    return t.tv_sec * 1e6 + t.tv_nsec / 1e3;
-}
 
 /* Microseconds for one call, over `times` calls. */
 static double round_of(verdict_fn *f, const struct plan_file *plan, unsigned times)
@@ -43,18 +34,6 @@ static unsigned times_for(verdict_fn *f, const struct plan_file *plan)
     while ((each = round_of(f, plan, times)) * times < ROUND_MICROSECONDS / 4)
         times *= 2;
     return 1 + (unsigned)(ROUND_MICROSECONDS / each);
-}
-
-static int by_size(const void *a, const void *b)
-{
-    double x = *(const double *)a, y = *(const double *)b;
-    return (x > y) - (x < y);
-}
-
-static double median(double *times)
-{
-    qsort(times, ROUNDS, sizeof *times, by_size);
-    return times[ROUNDS / 2];
 }
 
 static unsigned size_of(const word *f)

@@ -122,16 +122,6 @@ static size_t random_length(uint64_t *state, size_t need, size_t room)
     }
 }
 
-static void random_file(uint64_t *state, struct plan_file *f)
-{
-    random_plan(state, f);
-    if (below(state, 3) == 0)
-        aim(state, f);
-    if (below(state, 5) < 2)
-        for (unsigned k = 1 + below(state, 2); k > 0; k--)
-            damage(state, f);
-}
-
 static void random_trial(uint64_t *state, struct trial *t)
 {
     do

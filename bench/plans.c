@@ -325,3 +325,13 @@ void damage(uint64_t *state, struct plan_file *f)
     }
     }
 }
+
+void random_file(uint64_t *state, struct plan_file *f)
+{
+    random_plan(state, f);
+    if (below(state, 3) == 0)
+        aim(state, f);
+    if (below(state, 5) < 2)
+        for (unsigned k = 1 + below(state, 2); k > 0; k--)
+            damage(state, f);
+}

@@ -46,6 +46,9 @@ void aim(uint64_t *state, struct plan_file *f);
 /* Changes a file in one place: a byte changed, cut, extended, a length moved, and so on. Most are then refused, not all. */
 void damage(uint64_t *state, struct plan_file *f);
 
+/* A random plan, a third of them aimed, two of five damaged once or twice. */
+void random_file(uint64_t *state, struct plan_file *f);
+
 /* Whether an undo of it has an undo, and none of these has one, whatever is amiss after its nodes: a version from before that could be refuses it by 8. */
 int is_nested(const struct plan_file *f);
 

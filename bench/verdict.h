@@ -16,7 +16,11 @@ uint32_t plain_verdict(const uint8_t *file, size_t file_len, uint8_t *work, size
 /* The proved one, from the static library. */
 uint32_t vodjimar_verdict(const uint8_t *file, size_t file_len, uint8_t *work, size_t work_len, uint8_t *record, size_t record_len);
 
-/* Another build of it, where bench/run is given one to compare with. */
+/* The proved call for a whole class: plan files, each after a two-byte length, and a place of PLACE bytes for each. How many places are filled, or REFUSED + the number. */
+enum { FILES = 16, PLACE = 130 };
+uint32_t vodjimar_class(const uint8_t *input, size_t input_len, uint8_t *work, size_t work_len, uint8_t *answers, size_t answers_len);
+
+/* Another build of the verdict, where bench/run is given one to compare with. */
 #ifdef BEFORE
 uint32_t vodjimar_before(const uint8_t *file, size_t file_len, uint8_t *work, size_t work_len, uint8_t *record, size_t record_len);
 #endif

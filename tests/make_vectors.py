@@ -1,7 +1,7 @@
 #!/usr/bin/env python3
 """Writes the vectors of the program `compare` anew: tests/make_vectors.py MODEL
 
-MODEL is the folder of the model (plans.py says which). Written: crates/compare/data/files, runs, hours, verdicts and formulas, what each program reads
+MODEL is the folder of the model (plans.py says which). Written: crates/compare/data/files, runs, hours, verdicts, formulas and classes, what each program reads
 and is to write (stdin, stdout, args and data in its crate), the plans of the course and their window file, crates/course/data, and the stored cases but those that
 stand for the front door alone, tests/stored and tests/files.
 docs/VECTORS.md has the format. The numbers expected are the model's. Where the papers name one, the script ends if the model has another.
@@ -16,6 +16,7 @@ import sys
 
 import levels
 import nested
+from classes import HEADING, PLACE, answers_of, class_vectors
 from formulas import REFUSED, formula_vectors
 from hours import hours_vectors
 from madeup import broken
@@ -27,7 +28,7 @@ from plans import (CHOICE, COMPENSATION, HANDLER, PARALLEL, SEQUENCE, SKIP, THRO
 from sessions import MOST_FILE, Model, job_of, permitted, random_entries, real_job, session_of
 from shown import RECORD
 from steps import MADE_UP as MADE_UP_JOB, SESSION, TIMED_SESSION, answers_in, made_up_job, number_in, start_of, started, steps_in
-from stored import RULE_AT, RULES, WINDOWS, chart_lines, inspect_lines, other_records, other_rules, rule_lines, stored_cases, verdict_lines
+from stored import RULE_AT, RULES, WINDOWS, chart_lines, inspect_lines, other_places, other_records, other_rules, rule_lines, stored_cases, verdict_lines
 from typed import MOST_RULE
 from verdicts import verdict_vectors
 
@@ -606,7 +607,7 @@ def with_another_number(body, number):
     return body[:len(body) - len(b''.join(steps))] + b''.join(steps[:at] + [other] + steps[at + 1:]), at + 1
 
 
-def write_differences(write, runs, hours, formulas):
+def write_differences(write, runs, hours, formulas, classes):
     """the stored case of `compare` whose vectors do not all agree, and whose data files are not all whole: a last vector is missing, a step is cut, a byte is left
     over"""
     case = 'tests/stored/compare-differs/'
@@ -624,6 +625,9 @@ def write_differences(write, runs, hours, formulas):
     name, typed = formulas[0]
     refused = (REFUSED + 15).to_bytes(RULE_AT, 'little') + typed[RULE_AT:]
     write(case + 'data/formulas', data_of([(name, typed), ('refused', refused), ('refused, again', refused), ('a byte too short', typed[:RULE_AT + MOST_RULE - 1])]))
+    one = dict(classes)['P2 alone']
+    none = bytes(4) + one[4:]
+    write(case + 'data/classes', data_of([('P2 alone', one), ('no place', none), ('no place, again', none), ('a byte too short', one[:HEADING + PLACE - 1])]))
     write(case + 'stdout', b'files: vector 2 (a wrong number): expected 7, found 0\nfiles: 4 vectors, 2 agree\n'
           + f'runs: vector 2 (another end): expected {answers}, found {answers - 1}\n'.encode() +
           b'runs: 3 vectors, 1 agree\nruns: the data file is damaged after these\n'
@@ -631,21 +635,24 @@ def write_differences(write, runs, hours, formulas):
           b'hours: 3 vectors, 1 agree\nhours: the data file is damaged after these\n'
           b'verdicts: vector 1 (P2): expected 0, found 65538\nverdicts: 1 vectors, 0 agree\nverdicts: the data file is damaged after these\n'
           + f'formulas: vector 2 (refused): expected {REFUSED + 15}, found {typed[0]}\n'.encode() +
-          b'formulas: 3 vectors, 1 agree\nformulas: the data file is damaged after these\n')
+          b'formulas: 3 vectors, 1 agree\nformulas: the data file is damaged after these\n'
+          b'classes: vector 2 (no place): expected 0, found 1\nclasses: 3 vectors, 1 agree\nclasses: the data file is damaged after these\n')
 
 
-def write_other_records(write, runs, hours, verdicts, formulas):
-    """the stored case of `compare` whose numbers of verdicts and of typed rules are right, and whose bytes are not"""
+def write_other_records(write, runs, hours, verdicts, formulas, classes):
+    """the stored case of `compare` whose numbers of verdicts, of typed rules and of classes are right, and whose bytes are not"""
     case = 'tests/stored/compare-other-records/'
     vectors, lines = other_records(verdicts)
     typed, typed_lines = other_rules(formulas)
+    of_class, class_lines = other_places(classes)
     write(case + 'program', b'compare\n')
     write(case + 'data/files', data_of([('P1', bytes([0]) + P1)]))
     write(case + 'data/runs', data_of(runs[:1]))
     write(case + 'data/hours', data_of(hours[:1]))
     write(case + 'data/verdicts', data_of(vectors))
     write(case + 'data/formulas', data_of(typed))
-    write(case + 'stdout', ('files: 1 vectors, 1 agree\nruns: 1 vectors, 1 agree\nhours: 1 vectors, 1 agree\n' + lines + typed_lines).encode())
+    write(case + 'data/classes', data_of(of_class))
+    write(case + 'stdout', ('files: 1 vectors, 1 agree\nruns: 1 vectors, 1 agree\nhours: 1 vectors, 1 agree\n' + lines + typed_lines + class_lines).encode())
 
 
 def write_course(cells, write):
@@ -749,10 +756,13 @@ def main():
     write('crates/compare/data/verdicts', data_of(verdicts))
     formulas = list(formula_vectors(cells))
     write('crates/compare/data/formulas', data_of(formulas))
-    groups = {'files': vectors, 'runs': runs, 'hours': hours, 'verdicts': verdicts, 'formulas': formulas}
+    of_class = judged + [withdrawn, retried] + with_nested + [('largest', LARGEST), ('all ten', ALL_TEN), ('taken in turns', TAKEN_IN_TURNS)]
+    classes = list(class_vectors(cells, dict(of_class), example_of_number(), LARGEST))
+    write('crates/compare/data/classes', data_of(classes))
+    groups = {'files': vectors, 'runs': runs, 'hours': hours, 'verdicts': verdicts, 'formulas': formulas, 'classes': classes}
     write('crates/compare/stdout', ''.join(f'{group}: {len(of)} vectors, {len(of)} agree\n' for group, of in groups.items()).encode())
-    write_differences(write, runs, hours, formulas)
-    write_other_records(write, runs, hours, verdicts, formulas)
+    write_differences(write, runs, hours, formulas, classes)
+    write_other_records(write, runs, hours, verdicts, formulas, classes)
     write_course(cells, write)
     write_rules(cells, write)
     # last, so that the lines of the others keep their numbers, which docs/GUIDE.md has
@@ -767,6 +777,7 @@ def main():
     numbers = [int.from_bytes(body[:4], 'little') for _, body in formulas]
     refused = ', '.join(f'{n}: {numbers.count(REFUSED + n)}' for n in (14, 15))
     print(f'formulas: {len(formulas)} vectors, {len(data_of(formulas))} bytes; {sum(n < REFUSED for n in numbers)} rules, refused by number {refused}')
+    print(f'classes: {len(classes)} vectors, {len(data_of(classes))} bytes;', answers_of(classes))
 
 
 main()

@@ -4,6 +4,7 @@ What make_vectors.py writes to tests/stored and tests/files.
 """
 import sys
 
+from classes import HEADING, LENT, MOST_FILES, MOST_LENT, PLACE, ROOM_AT
 from office import HALL
 from plans import number_of
 from sessions import Model, Timed, session_of, start_number
@@ -66,6 +67,18 @@ def other_rules(formulas):
     refused = next(body for _, body in formulas if body[1] > 0)
     vectors = [('as it is', rule)] + [(f'another byte {at}', with_another_byte(body, RULE_AT + at)) for body, at in ((rule, 2), (rule, MOST_RULE - 1), (refused, 0))]
     return vectors, f'formulas: vector 2 (another byte 2): expected {MOST_RULE}, found 2\nformulas: 4 vectors, 1 agree\n'
+
+
+def other_places(classes):
+    """likewise vectors of the group `classes`: a byte of a place, of the run that it shows, one of those after that run, one past the places, and one after a refusal;
+    and one with a longer answer area than there can be, which damages the data file"""
+    of = dict(classes)
+    body, refused = of['P2, then refused 6'], of['P2 alone, -1 bytes more than a place']
+    room = int.from_bytes(body[ROOM_AT:HEADING], 'little')
+    others = [(body, at) for at in (1, 5, PLACE - 1, 2 * PLACE)] + [(refused, 0)]
+    vectors = [('as it is', body)] + [(f'{"a refusal, " if of_body is refused else ""}another byte {at}', with_another_byte(of_body, HEADING + at)) for of_body, at in others]
+    lines = f'classes: vector 2 (another byte 1): expected {room}, found 1\nclasses: {len(vectors)} vectors, 1 agree\nclasses: the data file is damaged after these\n'
+    return vectors + [('too long an area', bytes(ROOM_AT) + (MOST_LENT + 1).to_bytes(2, 'little') + bytes([LENT]) * (MOST_LENT + 1))], lines
 
 
 def other_records(verdicts):
@@ -180,6 +193,42 @@ CONSISTENT = ('p1', 'p3', 'mended', 'undone-together', 'q3')
 VIOLATED = ('p2', 'p7', 'swallowed', 'withdrawn', 'largest', 'retried', 'taken-in-turns', 'restored', 'second-level', 'all-ten')
 
 
+# Classes handed in together, by the names of their plans: the front door's `class`, and with --table
+CLASSES = {
+    # the guide's
+    'evening': ('swallowed', 'broken', 'mended'),
+    # refused plans between others, and the same plan twice
+    'mixed': ('swallowed', 'broken', 'mended', 'swallowed', 'refused-1', 'p7'),
+    # a run after a longer one, and none after it
+    'shorter-after-longer': ('largest', 'p7', 'p1', 'refused-9', 'p2'),
+    'one': ('all-ten',),
+    'all-refused': tuple(f'refused-{n}' for n in (1, 2, 3, 4, 5, 6, 7, 9)) + ('broken', 'fourth-undo'),
+    # longer than any plan, between others
+    'too-long': ('p2', 'too-long', 'p1'),
+    'sixteen': ('p2',) * 15 + ('swallowed',),
+    'seventeen': ('p2',) * 17,
+}
+# Tables: the guide's; one with a long run; and so many plans that it takes three calls, of which the last has one plan
+TABLES = {'evening-table': ('swallowed', 'broken', 'mended'), 'table': ('swallowed', 'broken', 'mended', 'largest', 'refused-1'), 'table-of-sixteen': ('p7',) * 16, 'table-of-many': ('swallowed', 'broken', 'p2', 'mended') * 8 + ('p7',)}
+
+
+def class_lines(cells, files):
+    """what `class` writes: for each plan its number and what `verdict` writes; of more than sixteen the one refusal"""
+    if len(files) > MOST_FILES:
+        return 'refused 19\n'
+    return ''.join(f'plan {i}\n{verdict_lines(cells, file)}' for i, file in enumerate(files))
+
+
+def table_lines(cells, names, files):
+    """what `class --table` writes: a heading, and for each plan its name, verdict, number and run"""
+    rows = [('name', 'verdict', 'number', 'run')]
+    for name, file in zip(names, files):
+        kind, *number = cells.verdict(bytes(file))
+        run = shown_run(cells, file, number[0]) if kind == 'violated' else []
+        rows.append((name, kind, ''.join(map(str, number)), ' '.join(f'{leaf}:{outcome}' for leaf, outcome in run)))
+    return ''.join('\t'.join(row) + '\n' for row in rows)
+
+
 def last_told(lines):
     """whether the run may end, as it was told last"""
     return [line for line in lines.splitlines() if line.startswith(('open', 'may end'))][-1]
@@ -204,6 +253,13 @@ def stored_cases(cells, of_course, own):
             if not lines.startswith(kind):
                 sys.exit(f'{name}: the model does not say {kind}')
             yield f'verdict-{kind}-{name}', ['verdict', path(name)], None, lines.encode()
+    for case, names in CLASSES.items():
+        yield f'class-{case}', ['class', *map(path, names)], None, class_lines(cells, [files[name] for name in names]).encode()
+    for case, names in TABLES.items():
+        paths = [path(name) for name in names]
+        yield f'class-{case}', ['class', '--table', *paths], None, table_lines(cells, paths, [files[name] for name in names]).encode()
+    # files that no length of two bytes can tell the end of, and one of no bytes
+    yield 'class-endless', ['class', '/dev/zero', path('p2'), '/dev/null', path('p7')], None, class_lines(cells, [bytes(70000), files['p2'], b'', files['p7']]).encode()
     for name in ('p1', 'withdrawn', 'largest', 'q3', 'restored', 'second-level'):
         yield f'inspect-accepted-{name}', ['inspect', path(name)], None, inspect_lines(cells, files[name]).encode()
     for case, (name, text, end) in SESSIONS.items():

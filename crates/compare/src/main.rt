@@ -35,4 +35,5 @@ fn main() {
     run(Group::Hours, b"hours");
     run(Group::Verdicts, b"verdicts");
     run(Group::Formulas, b"formulas");
+    run(Group::Classes, b"classes");
 }

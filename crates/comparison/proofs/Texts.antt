@@ -12,7 +12,7 @@ use Rattle.text.specs.declared.Text.{Text}
 use Rattle.text.proofs.Texts.{appended-both, appended-one, appended-empty}
 use Rattle.text.proofs.Decimals.{decimal-length}
 use Rattle.vectors.specs.declared.Group.{Group}
-use Rattle.vectors.specs.declared.Group.the-variants.{Files, Runs, Hours, Verdicts, Formulas}
+use Rattle.vectors.specs.declared.Group.the-variants.{Files, Runs, Hours, Verdicts, Formulas, Classes}
 use Rattle.comparison.specs.Data.{isNamed, nameLength, nameAt}
 use Rattle.comparison.specs.Lines.{titleOf, differenceLine, countsLine, damageLine, differenceLines, damageLines, linesFor}
 use Rattle.comparison.specs.declared.Difference.{Difference}
@@ -40,6 +40,7 @@ title-few Runs = omega arith
 title-few Hours = omega arith
 title-few Verdicts = omega arith
 title-few Formulas = omega arith
+title-few Classes = omega arith
 
 name-few : (s : List ℕ) (at : ℕ) → length (nameAt s at) ≤ 64
 unfolding nameAt

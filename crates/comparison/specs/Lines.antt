@@ -7,7 +7,7 @@ use lib.Dec.{eqb}
 use Rattle.text.specs.Decimal.{decimal}
 use Rattle.text.specs.Text.{ascii}
 use Rattle.vectors.specs.declared.Group.{Group}
-use Rattle.vectors.specs.declared.Group.the-variants.{Files, Runs, Hours, Verdicts, Formulas}
+use Rattle.vectors.specs.declared.Group.the-variants.{Files, Runs, Hours, Verdicts, Formulas, Classes}
 use Rattle.comparison.specs.Data.{nameAt, comparedOf}
 use Rattle.comparison.specs.declared.Difference.{Difference}
 use Rattle.comparison.specs.declared.Comparison.{Comparison}
@@ -19,6 +19,7 @@ titleOf Runs = ascii "runs"
 titleOf Hours = ascii "hours"
 titleOf Verdicts = ascii "verdicts"
 titleOf Formulas = ascii "formulas"
+titleOf Classes = ascii "classes"
 
 -- TITLE: vector NUMBER (NAME): expected E, found F
 unfoldable pub differenceLine : Group → List ℕ → Difference → List ℕ

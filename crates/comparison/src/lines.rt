@@ -17,6 +17,7 @@ fn put_title(t: Text, group: Group) -> Text
         Group::Hours => text::put(t, b"hours"),
         Group::Verdicts => text::put(t, b"verdicts"),
         Group::Formulas => text::put(t, b"formulas"),
+        Group::Classes => text::put(t, b"classes"),
     }
 }
 

@@ -20,4 +20,3 @@ pub mod Hourly
 pub mod Hours
 pub mod RealTimed
 pub mod TimedRunner
-pub mod Examples

@@ -1,7 +1,9 @@
 pub mod Smallest
 pub mod PlanRuns
 pub mod Decoded
+pub mod Entries
 pub mod Plain
+pub mod Some
 pub mod Codes
 pub mod Demand3
 pub mod Answer

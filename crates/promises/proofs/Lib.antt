@@ -4,3 +4,4 @@ pub mod TypedPlans
 pub mod Promises
 pub mod ExamplePlans
 pub mod Examples
+pub mod JobExamples

@@ -9,7 +9,10 @@ use Rattle.job.proofs.Demand2.{demand2}
 use Rattle.job.proofs.PromisedEnd.{promised-end}
 use Rattle.job.proofs.TimedRunner.{timed-runner}
 use Rattle.judge.proofs.Demand3.{demand3}
+use Rattle.judge.proofs.Some.{some-answer}
 use Rattle.judge.proofs.Codes.{codes-apart}
+use Rattle.class.proofs.Promises.{class-promises}
+use Rattle.class.proofs.Tried.{tried-classes}
 use Rattle.grammar.proofs.TypedRules.{typed-rules}
 use Rattle.grammar.proofs.Senses.{keeps-sense}
 use Rattle.grammar.proofs.Examples.{examples}
@@ -20,6 +23,9 @@ use Rattle.session.proofs.Entries.{reads-entries}
 use Rattle.session.proofs.Answers.{answers-entries}
 use Rattle.session.proofs.Hearing.{answers-lines}
 use Rattle.report.proofs.Once.{one-text, one-named-text}
+use Rattle.sheet.proofs.Tells.{class-tells}
+use Rattle.handed.proofs.HandIn.{hands-in}
+use Rattle.sheet.proofs.Examples as of-sheet
 use Rattle.fields.proofs.TellsJobs.{tells-jobs}
 use Rattle.vectors.proofs.AgreesAlone.{agrees-alone}
 use Rattle.tried.proofs.TriedPlans.{tried-plans, nested-plans}
@@ -57,6 +63,8 @@ promises = record {
   typed-sense = keeps-sense;
   typed-answers = answers;
   typed-plans = typed-plans;
+  class = class-promises;
+  classes = tried-classes;
   traces = plan-traces;
   decimals = spells;
   texts = takes-texts;
@@ -67,11 +75,15 @@ promises = record {
   lines-answered = answers-lines;
   one-text = one-text;
   one-named-text = one-named-text;
+  class-told = class-tells;
+  handed-in = hands-in;
+  sheet = of-sheet.examples;
   jobs = tells-jobs;
   vectors = agrees-alone;
   reader-itself = demand1;
   runner-itself = demand2;
   verdict-itself = demand3;
+  some-answer = some-answer;
   codes = codes-apart;
   tried = tried-plans;
   nested = nested-plans;

@@ -11,6 +11,9 @@ use Rattle.job.specs.PromisedEnd.{PromisedEnd}
 use Rattle.job.specs.TimedRunner.{TimedRunner}
 use Rattle.judge.specs.Demand3 as of-judge
 use Rattle.judge.specs.Codes.{CodesApart}
+use Rattle.judge.specs.Record.{SomeAnswer}
+use Rattle.class.specs.Promises.{ClassPromises}
+use Rattle.class.specs.Tried.{TriedClasses}
 use Rattle.grammar.specs.Typed.{TypedRules}
 use Rattle.grammar.specs.Examples.{Examples}
 use Rattle.grammar.specs.Sense.{KeepsSense}
@@ -21,6 +24,9 @@ use Rattle.session.specs.Entries.{ReadsEntries}
 use Rattle.session.specs.Answers.{AnswersEntries}
 use Rattle.session.specs.Session.{AnswersLines}
 use Rattle.report.specs.Tells.{OneText, OneNamedText}
+use Rattle.sheet.specs.Tells.{ClassTells}
+use Rattle.handed.specs.HandIn.{HandsIn}
+use Rattle.sheet.specs.Examples as of-sheet
 use Rattle.fields.specs.Jobs.{TellsJobs}
 use Rattle.vectors.specs.Agrees.{AgreesAlone}
 use Rattle.tried.specs.TriedPlans.{TriedPlans}
@@ -48,6 +54,9 @@ pub record Promises : Type 0 where
   pub typed-sense : KeepsSense
   pub typed-answers : Answers
   pub typed-plans : TypedPlans
+  -- a class handed in together (N8)
+  pub class : ClassPromises
+  pub classes : TriedClasses
   -- the runs of a plan are the report's traces
   pub traces : PlanTraces
   -- what the programs say
@@ -60,12 +69,16 @@ pub record Promises : Type 0 where
   pub lines-answered : AnswersLines
   pub one-text : OneText
   pub one-named-text : OneNamedText
+  pub class-told : ClassTells
+  pub handed-in : HandsIn
+  pub sheet : of-sheet.Examples
   pub jobs : TellsJobs
   pub vectors : AgreesAlone
   -- the reader, the runner and the verdict, each of itself
   pub reader-itself : of-plan.Demand1
   pub runner-itself : of-job.Demand2
   pub verdict-itself : of-judge.Demand3
+  pub some-answer : SomeAnswer
   pub codes : CodesApart
   -- the tried plans
   pub tried : TriedPlans

@@ -1,26 +1,17 @@
 -- The lines of a run, two bytes after two bytes.
 use mathlib.Core.Path.{_≡_}
-use mathlib.Core.List.{List, _∷_}
-use Prim.Native.Nat.{ℕ, suc, _+_, _*_, _≤_, _<_}
-use native.Mathlib.Omega.{arith}
+use mathlib.Core.List.{List}
+use Prim.Native.Nat.{ℕ, _+_, _*_, _≤_, _<_}
 use lib.ListN.{length, getD, drop, drop-of-length-le}
-use lib.Seq.{drop-cons}
 use borrow.Author.Tests.{eq-eqb, ne-eqb}
 use Rattle.text.specs.Decimal.{decimal}
 use Rattle.text.specs.Text.{appended}
 use Rattle.text.specs.declared.Text.{Text}
 use Rattle.text.proofs.Texts.{appended-both}
 use Rattle.judge.specs.Shown.{shownEntries}
+use Rattle.judge.proofs.Entries.{entry-off}
 use Rattle.text.specs.Lines.{numbered}
 use Rattle.report.specs.Lines.{entryLines, runLines}
-
-entry-off : (run : List ℕ) (i : ℕ) → 2 * i + 1 < length run → drop (2 * i) run ≡ getD run (2 * i) 0 ∷ getD run (2 * i + 1) 0 ∷ drop (2 * (i + 1)) run
-entry-off run i h =
-    let e : suc (2 * i) ≡ 2 * i + 1 = omega arith in
-    let f : suc (2 * i + 1) ≡ 2 * (i + 1) = omega arith in
-    let first = drop-cons run (2 * i) 0 (omega arith) in
-    let second = drop-cons run (2 * i + 1) 0 h in
-    rw (first, e, second, f)
 
 module _ (t : Text) (run : List ℕ) (i : ℕ) where
   -- past the end there is nothing to put

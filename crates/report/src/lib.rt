@@ -36,7 +36,7 @@ fn put_run(t: Text, run: [u8; 126]) -> Text
 }
 
 // The lines of a verdict more.
-fn put_verdict(t: Text, j: Judgement, run: [u8; 126]) -> Text
+pub fn put_verdict(t: Text, j: Judgement, run: [u8; 126]) -> Text
     ensures { λ r. ⌜ r ≡ appended t (verdictLines j run) ⌝ }
 {
     match j {

@@ -12,7 +12,8 @@ use Rattle.blocks.proofs.Bounded.{decide}
 use Rattle.fields.specs.Number.{fourAt}
 use Rattle.vectors.specs.Outcome.{heldAgainst, alike, answerHeld}
 use Rattle.vectors.specs.Files.{filesOutcome}
-use Rattle.vectors.specs.Agrees.{FileAgreed, Agreed, AgreesAlone}
+use Rattle.vectors.specs.Classes.{mostLent, areaLent, classesOutcome}
+use Rattle.vectors.specs.Agrees.{FileAgreed, Agreed, ClassAgreed, AgreesAlone}
 use Rattle.vectors.specs.declared.outcome.Outcome.{Outcome}
 use Rattle.vectors.specs.declared.outcome.Outcome.the-variants.{Agrees, Damaged}
 
@@ -53,28 +54,41 @@ held-alone e f = go (decide (eqb e f))
 held-same : (e f : ℕ) → e ≡ f → heldAgainst e f ≡ Agrees
 held-same e f h = rw (eq-eqb e f h)
 
-module _ (found n : ℕ) (shown : List ℕ) (at : ℕ) (body : List ℕ) where
+-- of a body that has so many bytes at least
+module _ (size found n : ℕ) (shown : List ℕ) (at : ℕ) (body : List ℕ) where
   abbrev outcome : Outcome
-  outcome = cond (ltb (length body) 131) Damaged (answerHeld (fourAt body 0) found n shown body at)
+  outcome = cond (ltb (length body) size) Damaged (answerHeld (fourAt body 0) found n shown body at)
 
-  agreed : outcome ≡ Agrees → Agreed found n shown at body
-  agreed = go (decide (ltb (length body) 131)) (decide (eqb (fourAt body 0) found))
+  record Same : Type 0 where
+    whole : size ≤ length body
+    number : fourAt body 0 ≡ found
+    bytes : (i : ℕ) → i < n → getD shown i 0 ≡ getD body (at + i) 0
+
+  same : outcome ≡ Agrees → Same
+  same = go (decide (ltb (length body) size)) (decide (eqb (fourAt body 0) found))
     where
-      go : (ltb (length body) 131 ≡ true) ⊎ (ltb (length body) 131 ≡ false) → (eqb (fourAt body 0) found ≡ true) ⊎ (eqb (fourAt body 0) found ≡ false) → outcome ≡ Agrees → Agreed found n shown at body
+      go : (ltb (length body) size ≡ true) ⊎ (ltb (length body) size ≡ false) → (eqb (fourAt body 0) found ≡ true) ⊎ (eqb (fourAt body 0) found ≡ false) → outcome ≡ Agrees → Same
       go (inl h) m k = absurd (let l = rw h at k in let z : _≡_ {A = ℕ} 0 1 = cc in omega arith)
       go (inr h) (inr m) k = absurd (let l = rw (h, m) at k in let z : _≡_ {A = ℕ} 0 1 = cc in omega arith)
       go (inr h) (inl m) k =
           let e = held-alone n (alike n 0 shown body at) (rw (h, m) at k) in
           record {
-            whole = ltb-false (length body) 131 h;
+            whole = ltb-false (length body) size h;
             number = eqb-true (fourAt body 0) found m;
             bytes = λ i l. all-counted shown body at n 0 (omega arith) i (omega arith) (omega arith);
           }
 
-  agrees : Agreed found n shown at body → outcome ≡ Agrees
-  agrees a =
+  same-agrees : Same → outcome ≡ Agrees
+  same-agrees a =
       let e : alike n 0 shown body at ≡ 0 + n = counts-all shown body at n 0 (λ j k l. a .bytes j (omega arith)) in
-      rw (le-ltb (length body) 131 (a .whole), eq-eqb _ _ (a .number)) (held-same n (alike n 0 shown body at) (omega arith))
+      rw (le-ltb (length body) size (a .whole), eq-eqb _ _ (a .number)) (held-same n (alike n 0 shown body at) (omega arith))
+
+module _ (found n : ℕ) (shown : List ℕ) (at : ℕ) (body : List ℕ) where
+  agreed : outcome 131 found n shown at body ≡ Agrees → Agreed found n shown at body
+  agreed k = let a = same 131 found n shown at body k in record { whole = a .whole; number = a .number; bytes = a .bytes }
+
+  agrees : Agreed found n shown at body → outcome 131 found n shown at body ≡ Agrees
+  agrees a = same-agrees 131 found n shown at body (record { whole = a .whole; number = a .number; bytes = a .bytes })
 
 positive : (n : ℕ) → (n ≡ 0 → ⊥) → 1 ≤ n
 positive zero h = absurd (h refl)
@@ -90,9 +104,20 @@ file-agreed body = go (decide (eqb (length body) 0))
 file-agrees : (body : List ℕ) → FileAgreed body → filesOutcome body ≡ Agrees
 file-agrees body a = rw (ne-eqb (length body) 0 (λ e. omega (arith, a .some, e))) (held-same _ _ (a .number))
 
+class-agreed : (body : List ℕ) → classesOutcome body ≡ Agrees → ClassAgreed body
+class-agreed body = go (decide (ltb mostLent (areaLent body)))
+  where
+    go : (ltb mostLent (areaLent body) ≡ true) ⊎ (ltb mostLent (areaLent body) ≡ false) → classesOutcome body ≡ Agrees → ClassAgreed body
+    go (inl h) k = absurd (let l = rw h at k in let z : _≡_ {A = ℕ} 0 1 = cc in omega arith)
+    go (inr h) k = let a = same (7 + areaLent body) _ _ _ 7 body (rw h at k) in record { short = ltb-false mostLent (areaLent body) h; whole = a .whole; number = a .number; bytes = a .bytes }
+
+class-agrees : (body : List ℕ) → ClassAgreed body → classesOutcome body ≡ Agrees
+class-agrees body a = rw (le-ltb mostLent (areaLent body) (a .short)) (same-agrees (7 + areaLent body) _ _ _ 7 body (record { whole = a .whole; number = a .number; bytes = a .bytes }))
+
 pub agrees-alone : AgreesAlone
 agrees-alone = record {
   files = λ body. (file-agreed body, file-agrees body);
   verdicts = λ body. (agreed _ _ _ _ body, agrees _ _ _ _ body);
   formulas = λ body. (agreed _ _ _ _ body, agrees _ _ _ _ body);
+  classes = λ body. (class-agreed body, class-agrees body);
 }

@@ -5,8 +5,9 @@ use Rattle.vectors.specs.Files.{filesOutcome}
 use Rattle.vectors.specs.Runs.{runsOutcome}
 use Rattle.vectors.specs.Verdicts.{verdictsOutcome}
 use Rattle.vectors.specs.Formulas.{formulasOutcome}
+use Rattle.vectors.specs.Classes.{classesOutcome}
 use Rattle.vectors.specs.declared.Group.{Group}
-use Rattle.vectors.specs.declared.Group.the-variants.{Files, Runs, Hours, Verdicts, Formulas}
+use Rattle.vectors.specs.declared.Group.the-variants.{Files, Runs, Hours, Verdicts, Formulas, Classes}
 use Rattle.vectors.specs.declared.outcome.Outcome.{Outcome}
 
 abbrev pub outcomeIn : Group → List ℕ → Outcome
@@ -15,3 +16,4 @@ outcomeIn Runs body = runsOutcome body
 outcomeIn Hours body = runsOutcome body
 outcomeIn Verdicts body = verdictsOutcome body
 outcomeIn Formulas body = formulasOutcome body
+outcomeIn Classes body = classesOutcome body

@@ -3,6 +3,7 @@ ghost use mathlib.Core.Path.{_≡_};
 ghost use Rattle.vectors.specs.Groups.{outcomeIn};
 use outcome::Outcome;
 
+pub mod classes;
 pub mod files;
 pub mod formulas;
 pub mod outcome;
@@ -16,6 +17,7 @@ pub enum Group {
     Hours,
     Verdicts,
     Formulas,
+    Classes,
 }
 
 // What a vector of the group comes to.
@@ -28,5 +30,6 @@ pub fn compare(group: Group, body: &[u8]) -> Outcome
         Group::Hours => runs::compare(body),
         Group::Verdicts => verdicts::compare(body),
         Group::Formulas => formulas::compare(body),
+        Group::Classes => classes::compare(body),
     }
 }

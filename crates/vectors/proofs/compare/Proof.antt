@@ -33,6 +33,12 @@ enum-told-5 c = search needs
 compare-requires-5 : tie.Need-compare-requires-5
 compare-requires-5 c κs = search needs
 
+enum-told-6 : tie.Need-enum-told-6
+enum-told-6 c = search needs
+
+compare-requires-6 : tie.Need-compare-requires-6
+compare-requires-6 c κs = search needs
+
 returns : tie.Need-returns
 returns c = rw (c .before .enum-told .given .1) (c .compare .ensures)
 
@@ -48,6 +54,9 @@ returns-4 c = rw (c .before .enum-told4 .given .1) (c .compare4 .ensures)
 returns-5 : tie.Need-returns-5
 returns-5 c = rw (c .before .enum-told5 .given .1) (c .compare5 .ensures)
 
+returns-6 : tie.Need-returns-6
+returns-6 c = rw (c .before .enum-told6 .given .1) (c .compare6 .ensures)
+
 pub compare-spec : {M : Type 1} → statement M
 compare-spec =
     tie.close
@@ -62,8 +71,11 @@ compare-spec =
     compare-requires-4
     enum-told-5
     compare-requires-5
+    enum-told-6
+    compare-requires-6
     returns
     returns-2
     returns-3
     returns-4
-    returns-5)
+    returns-5
+    returns-6)

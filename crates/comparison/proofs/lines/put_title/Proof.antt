@@ -48,6 +48,15 @@ slice-aggregate-put-5 c = search needs
 put-requires-5 : tie.Need-put-requires-5
 put-requires-5 c κs = search needs
 
+enum-told-6 : tie.Need-enum-told-6
+enum-told-6 c = search needs
+
+slice-aggregate-put-6 : tie.Need-slice-aggregate-put-6
+slice-aggregate-put-6 c = search needs
+
+put-requires-6 : tie.Need-put-requires-6
+put-requires-6 c κs = search needs
+
 returns : tie.Need-returns
 returns c = rw (c .before .before .enum-told .given .1) (c .put .ensures)
 
@@ -62,6 +71,9 @@ returns-4 c = rw (c .before .before .enum-told4 .given .1) (c .put4 .ensures)
 
 returns-5 : tie.Need-returns-5
 returns-5 c = rw (c .before .before .enum-told5 .given .1) (c .put5 .ensures)
+
+returns-6 : tie.Need-returns-6
+returns-6 c = rw (c .before .before .enum-told6 .given .1) (c .put6 .ensures)
 
 pub put-title-spec : {M : Type 1} → statement M
 put-title-spec =
@@ -82,8 +94,12 @@ put-title-spec =
     enum-told-5
     slice-aggregate-put-5
     put-requires-5
+    enum-told-6
+    slice-aggregate-put-6
+    put-requires-6
     returns
     returns-2
     returns-3
     returns-4
-    returns-5)
+    returns-5
+    returns-6)

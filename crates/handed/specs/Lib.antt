@@ -1,0 +1,4 @@
+pub mod Files
+pub mod Cursor
+pub mod Reading
+pub mod HandIn

@@ -1,0 +1,4 @@
+pub mod Shown
+pub mod Places
+pub mod Lists
+pub mod Lengths
