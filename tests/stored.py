@@ -207,6 +207,8 @@ CLASSES = {
     'too-long': ('p2', 'too-long', 'p1'),
     'sixteen': ('p2',) * 15 + ('swallowed',),
     'seventeen': ('p2',) * 17,
+    # as much as is read of seventeen files, which has to have room
+    'seventeen-too-long': ('too-long',) * 17,
 }
 # Tables: the guide's; one with a long run; and so many plans that it takes three calls, of which the last has one plan
 TABLES = {'evening-table': ('swallowed', 'broken', 'mended'), 'table': ('swallowed', 'broken', 'mended', 'largest', 'refused-1'), 'table-of-sixteen': ('p7',) * 16, 'table-of-many': ('swallowed', 'broken', 'p2', 'mended') * 8 + ('p7',)}
