@@ -1,4 +1,6 @@
 // The lines of a runner's answer, as a text.
+#![tactic(auto)]
+
 ghost use Rattle.std.specs.Prelude.{◌≡◌};
 ghost use Rattle.text.specs.Lines.{each};
 ghost use Rattle.text.specs.Text.{appended, text_of};

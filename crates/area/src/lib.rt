@@ -1,4 +1,6 @@
 // Summaries in a lent area of bytes: the one at place i from byte 1,408 * i on, code after code, little-endian words.
+#![tactic(auto)]
+
 ghost use Rattle.std.specs.Prelude.{◌≡◌, ◌+◌, ◌≤◌, ◌<◌, length};
 ghost use Rattle.area.specs.Area.{code_at, word_at, words_at, loaded, WordWritten, Written, StoreAnswer};
 

@@ -1,5 +1,7 @@
 // Blocks and byte areas: the heading of a block at a cursor, whether its body is there, and writing a part of a lent area.
 // Nothing here knows what a plan is.
+#![tactic(auto)]
+
 ghost use Rattle.std.specs.Prelude.{◌≡◌, ◌+◌, ◌≤◌, ◌<◌, leb, length, replicate};
 ghost use Rattle.blocks.specs.Block.{le16, heading_at, body_fits};
 ghost use Rattle.blocks.specs.Area.{fits, written};

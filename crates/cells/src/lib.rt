@@ -1,5 +1,7 @@
 // The cells of a process: where it stands after some entries of a run, from the cells of its sides alone. The specs of `runs` say what
 // they are; here three levels, forward, undo and the undo of the undo, which is what a plan file needs.
+#![tactic(auto)]
+
 ghost use Rattle.std.specs.Prelude.{◌≡◌, true, false, cond, ◌<◌};
 ghost use Rattle.runs.specs.Cells.{is_succeeded, is_failed, given, leaf_cell, node_begun, node_ended, left_may, right_may, node_cell, join_cell, then_undo};
 ghost use Rattle.runs.specs.ThreeLevels.{nothing, composite_form, leaf_three, form_three, node_three, told_three};

@@ -1,4 +1,6 @@
 // Writes the outcome chart: a table for each form, under its name, with a row for each left code and a number for each right code.
+#![tactic(auto)]
+
 ghost use Rattle.std.specs.Prelude.{◌≡◌};
 ghost use Rattle.text.specs.Lines.{each};
 ghost use Rattle.text.specs.Text.{appended, text_of};

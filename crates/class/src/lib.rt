@@ -1,5 +1,7 @@
 // A whole class handed in together: up to sixteen plan files, each after a two-byte length, and a place of 130 bytes for each in a lent area,
 // with what the single verdict says of it.
+#![tactic(auto)]
+
 ghost use Rattle.std.specs.Prelude.{◌≡◌, ◌||◌, ◌≤◌, length};
 ghost use Rattle.judge.specs.Verdict.{work_size};
 ghost use Rattle.place.specs.Work.{work_left};

@@ -2,6 +2,8 @@
 // The first vector of a group that differs has a line of its own, above that of the counts.
 //
 // What a data file comes to, and its lines, are the crate `comparison`'s; docs/VECTORS.md says what the vectors are and how they are made.
+#![tactic(auto)]
+
 ghost use Rattle.std.specs.Prelude.{◌≡◌, length, replicate};
 
 use libc::STDOUT_FILENO;

@@ -2,6 +2,8 @@
 //
 // A data file is the number of its vectors, then the vectors. A vector is the length of its name, the length of its body, the name, and
 // the body. These numbers have four bytes each, the lowest first. What a body holds is its group's to say, in the crate `vectors`.
+#![tactic(auto)]
+
 ghost use Rattle.std.specs.Prelude.{◌≡◌, true, ◌+◌, ◌≤◌, ◌<◌, length};
 ghost use Rattle.comparison.specs.Data.{body_start, vector_end, is_named, is_whole, outcome_at, fresh, damaged, first_of, counted, compared_of};
 

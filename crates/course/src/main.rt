@@ -1,4 +1,6 @@
 // Judges the plans of the course, one after the other: the name of each, and then the lines of its verdict.
+#![tactic(auto)]
+
 use libc::STDOUT_FILENO;
 
 // The plan of this name. One that is longer than the largest plan file is refused by the number of its first MOST_BYTES + 1 bytes.

@@ -1,5 +1,7 @@
 // Families of action sets. An action set is a number below 1,024, bit a for action a; a family has one bit for each of them, in sixteen
 // words of 64 bits.
+#![tactic(auto)]
+
 ghost use Rattle.family.specs.Family.{Empty, Single, Joined, TellsEmpty, Having};
 
 // The family with no set.

@@ -1,5 +1,7 @@
 // The fewest failed entries of the complete runs of a plan that have given outcomes and leave exactly a set: by a fold over the codes of three levels,
 // and for the actions of the set by trying leaves of theirs as ones that must finish, the action with the fewest such leaves first. Sets have up to 24 actions.
+#![tactic(auto)]
+
 ghost use Rattle.std.specs.Prelude.{◌≡◌, true, not, cond, ◌&&◌, ◌+◌, ◌≤◌, ◌<◌, min, eqb, ltb, leb, length, set};
 ghost use Rattle.outcomes.specs.Rows.{rows as outcomeRows, code_of_digit, row_cell, cell_in3};
 ghost use Rattle.nodes.specs.Nodes.{count, form, left};

@@ -3,6 +3,8 @@
 // The readers call each other in a cycle, a frame or more for each not, implies and bracket that is pending. So a pass without recursion goes first, which finds
 // 14 and 15: the readers then meet only texts whose postfix list has at most 127 bytes, and nest at most 211 deep: five for each of 17 levels of
 // brackets, and one for each pending not or implies, of which such a text has at most 126.
+#![tactic(auto)]
+
 ghost use Rattle.std.specs.Prelude.{◌≡◌, ◌≤◌};
 ghost use Rattle.grammar.specs.Token.{and, or};
 ghost use Rattle.grammar.specs.Readings.{chain, implication, negation, operand};

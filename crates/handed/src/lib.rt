@@ -1,4 +1,6 @@
 // The files of a class as they are handed in: each after its length in two bytes. How many there are, and putting one more after them.
+#![tactic(auto)]
+
 ghost use Rattle.std.specs.Prelude.{◌≡◌, ◌≤◌, length};
 ghost use Rattle.handed.specs.Cursor.{NextAt, CountOf};
 

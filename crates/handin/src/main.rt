@@ -6,6 +6,8 @@
 // `handin --table FILE..` writes a table instead, for a spreadsheet: a heading and a row for each file; `handin --rows FILE..` writes the rows alone.
 //
 // Files that cannot be read are told on standard error, each by its name; then nothing is judged, and nothing is written on standard output.
+#![tactic(auto)]
+
 ghost use Rattle.std.specs.Prelude.{◌*◌, ◌≤◌, length};
 ghost use Rattle.io.specs.Counts.{IsPrefixLen};
 ghost use Rattle.handed.specs.Files.{most_files};

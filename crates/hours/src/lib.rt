@@ -1,5 +1,7 @@
 // Hours of the hall: the window file of a timed job, what its windows say of an entry's minute, and which minutes a record's last entry can
 // have had.
+#![tactic(auto)]
+
 pub mod entries;
 pub mod windows;
 

@@ -2,6 +2,8 @@
 //
 // No contract can say what a call of the system did, so those below say only how count and buffer go together. That `read_some`, `fill` and
 // `fill_from` hand on what `read` and `open` answered is to be read here: docs/TRUST.md names it.
+#![tactic(auto)]
+
 ghost use Rattle.std.specs.Prelude.{◌≡◌, ◌-◌, ◌≤◌, length, take};
 ghost use Rattle.io.specs.Counts.{IsPrefixLen};
 ghost use Rattle.input.specs.Answer.{answer_of, OneRead, Fills};

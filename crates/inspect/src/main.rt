@@ -1,4 +1,6 @@
 // Inspects a plan file on standard input: it writes `accepted`, or `refused` and document 01's number for why.
+#![tactic(auto)]
+
 use libc::{STDIN_FILENO, STDOUT_FILENO};
 
 // An input that is longer than the largest plan file is refused by the number of its first MOST_BYTES + 1 bytes.

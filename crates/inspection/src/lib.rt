@@ -1,4 +1,6 @@
 // What is written of a plan file that is read and not judged: `accepted`, or `refused` and document 01's number for why.
+#![tactic(auto)]
+
 ghost use Rattle.std.specs.Prelude.{◌≡◌};
 ghost use Rattle.text.specs.Text.{text_of};
 ghost use Rattle.plan.specs.Reading.{read_of};

@@ -1,4 +1,6 @@
 // The runner: a job carries its plan and its record so far, and lets through exactly the beginnings of its plan's runs.
+#![tactic(auto)]
+
 ghost use Rattle.std.specs.Prelude.{◌≡◌, ◌≤◌, ◌<◌, true, cond, ltb, eqb, length};
 ghost use Rattle.plan.specs.PlanFile.{most_bytes, Runnable};
 ghost use Rattle.plan.specs.Reading.{bytes_of, read_of};

@@ -1,4 +1,6 @@
 // The verdict on a plan: consistent, or the smallest set that breaks its rule with the plainest complete run that leaves it.
+#![tactic(auto)]
+
 ghost use Rattle.std.specs.Prelude.{◌≡◌, ◌≤◌, length};
 ghost use Rattle.plan.specs.PlanFile.{Runnable};
 ghost use Rattle.plan.specs.Reading.{read_of};

@@ -1,4 +1,6 @@
 // The smallest of a plan's sets that breaks its rule.
+#![tactic(auto)]
+
 ghost use Rattle.std.specs.Prelude.{List, ℕ};
 ghost use Rattle.undos.specs.Masks.{Masks};
 ghost use Rattle.rule.specs.Words.{Tells};

@@ -1,4 +1,6 @@
 // Kind 3: the nodes of a plan file.
+#![tactic(auto)]
+
 ghost use Rattle.std.specs.Prelude.{◌≡◌, cond, ◌≤◌, ◌<◌, max, ltb, length, get_or};
 ghost use Rattle.nodes.specs.Nodes.{count, Descending};
 ghost use Rattle.nodes.specs.Node.{node_at};

@@ -1,5 +1,7 @@
 // Writing a text to a descriptor. No contract can say what a descriptor takes: the bytes that are handed over are those of a function that has one, and
 // they are handed over once.
+#![tactic(auto)]
+
 ghost use Rattle.std.specs.Prelude.{◌≡◌, true, min, length, take};
 
 use text::Text;

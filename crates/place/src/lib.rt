@@ -1,4 +1,6 @@
 // The place of a plan in the answer area of a class: 130 bytes, which the single verdict on it fills.
+#![tactic(auto)]
+
 ghost use Rattle.std.specs.Prelude.{◌≡◌, ◌≤◌, ◌<◌, length, take};
 ghost use Rattle.judge.specs.Verdict.{work_size, record_size, verdict_of, set_given};
 ghost use Rattle.judge.specs.Shown.{shown_entries};

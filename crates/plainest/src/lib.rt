@@ -1,5 +1,7 @@
 // The run that a verdict shows beside a set: of the complete runs that leave it one with the fewest failed entries, and of these the one whose record bytes come first. It is built
 // entry by entry from the runner's own table of outcomes.
+#![tactic(auto)]
+
 ghost use Rattle.std.specs.Prelude.{◌≡◌, ◌^◌, ◌<◌, length, set};
 ghost use Rattle.outcomes.specs.Rows.{rows as outcomeRows};
 ghost use Rattle.plan.specs.PlanFile.{most_actions, Runnable};

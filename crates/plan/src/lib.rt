@@ -1,4 +1,6 @@
 // The plan file: a reader that turns away every broken file by document 01's number for it, and takes every other one.
+#![tactic(auto)]
+
 ghost use Rattle.std.specs.Prelude.{◌≡◌, ◌≤◌, ◌+◌, length};
 ghost use Rattle.plan.specs.PlanFile.{Bytes};
 ghost use Rattle.plan.specs.Reading.{bytes_of, length_ok, fault, judged, body_at, block_at, end_of, with_rule, with_nodes, with_pairs, with_types, read_within, read_of};

@@ -1,4 +1,6 @@
 // Turns a rule typed on standard input into postfix order, and writes its bytes on a line, or `refused` and document 02's number for why.
+#![tactic(auto)]
+
 use libc::{STDERR_FILENO, STDIN_FILENO, STDOUT_FILENO};
 
 fn answer(input: &[u8]) {

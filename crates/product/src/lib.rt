@@ -1,4 +1,6 @@
 // The product of two families: the unions of a set of the one and a set of the other.
+#![tactic(auto)]
+
 ghost use Rattle.std.specs.Prelude.{◌<◌, ◌^◌};
 ghost use Rattle.product.specs.Product.{Product};
 ghost use Rattle.product.specs.Steps.{TellsUnit, Spread, Doubled, Spreads, Picked, Grown};

@@ -1,4 +1,6 @@
 // Whether a text is a typed rule, and how many postfix bytes it becomes: in one pass and without recursion, so that a text may be of any length.
+#![tactic(auto)]
+
 ghost use Rattle.std.specs.Prelude.{◌≡◌, ◌+◌, ◌-◌, ◌^◌, ◌<◌};
 ghost use Rattle.recognizer.specs.Pass.{ended, onward, stepped, stepped_operand, stepped_operator, stopped};
 ghost use Rattle.recognizer.specs.Count.{count_of};

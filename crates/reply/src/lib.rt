@@ -1,4 +1,6 @@
 // What is said to a rule as people type it: a line with its bytes in postfix order, or `refused` and document 02's number for why.
+#![tactic(auto)]
+
 ghost use Rattle.std.specs.Prelude.{◌≡◌, ◌+◌, ◌≤◌, ◌<◌, min, length, replicate};
 ghost use Rattle.text.specs.Lines.{each};
 ghost use Rattle.text.specs.Text.{appended, text_of};

@@ -1,5 +1,7 @@
 // The lines of a verdict as a text: `consistent`; or `violated` and the set, and then a line for each entry of the run that is shown, leaf and
 // outcome; or `refused` and document 01's number for why.
+#![tactic(auto)]
+
 ghost use Rattle.std.specs.Prelude.{◌≡◌};
 ghost use Rattle.text.specs.Decimal.{decimal};
 ghost use Rattle.text.specs.Lines.{numbered};

@@ -1,5 +1,7 @@
 // Whether action sets satisfy a rule, 64 sets at a time: the sets 64 w to 64 w + 63 are the bits of one word. The rule's bytes and the masks of
 // undos are lent; nothing else of a plan is seen.
+#![tactic(auto)]
+
 ghost use Rattle.std.specs.Prelude.{◌≡◌, List, ℕ, ◌<◌, set};
 ghost use Rattle.meaning.specs.Literal.{literal};
 ghost use Rattle.meaning.specs.Value.{satisfies};

@@ -10,6 +10,8 @@
 // another digit; leaf and outcome are 0 to 255, and a minute is 0 to 4294967295. A line may have any length.
 // A line that is no entry, an empty one too, gets `not an entry`, and the session goes on. A newline ends a line, and so does the end of the input
 // where bytes of a line have come before it.
+#![tactic(auto)]
+
 ghost use Rattle.std.specs.Prelude.{true, ◌≡◌};
 ghost use Rattle.io.specs.Counts.{IsPrefixLen};
 ghost use Rattle.session.specs.Session.{heard_all};

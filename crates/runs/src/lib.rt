@@ -1,5 +1,7 @@
 // Beginnings of runs. What stands here as code are the types of the cells that tell where a process stands after some entries of a run: the
 // definitions and the theorems in specs/ and proofs/ speak of them, and the functions over them are in the crate `cells`.
+#![tactic(auto)]
+
 
 // How a process has ended so far. Of a leaf: Open where it has not run.
 #[derive(Drop)]

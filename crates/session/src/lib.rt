@@ -1,4 +1,6 @@
 // A session: a job, and the line that is coming in. Each byte of input is heard, and at the end of a line there is something to say.
+#![tactic(auto)]
+
 ghost use Rattle.std.specs.Prelude.{◌≡◌};
 ghost use Rattle.text.specs.Text.{text_of};
 ghost use Rattle.session.specs.Session.{next_line, silent, heard_no_entry, heard_answer, heard_entry, heard_timed, answered, heard_byte, heard_end, say_lines};

@@ -1,4 +1,6 @@
 // The action sets of a plan: the summary of each node from its parts' summaries, those of the composites in a lent work area, up to that of the whole process.
+#![tactic(auto)]
+
 ghost use Rattle.std.specs.Prelude.{◌≡◌, suc, ◌*◌, ◌≤◌, ◌<◌, length};
 ghost use Rattle.nodes.specs.Nodes.{count, form, left};
 ghost use Rattle.plan.specs.PlanFile.{Runnable};

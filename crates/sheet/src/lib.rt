@@ -1,4 +1,6 @@
 // What a place of a class's answer area says, as text: lines, or a row of a table.
+#![tactic(auto)]
+
 mod form;
 mod names;
 mod rows;

@@ -1,4 +1,6 @@
 // The state of a job after its record: the outcomes of the leaves, and what the cells tell by them.
+#![tactic(auto)]
+
 ghost use Rattle.std.specs.Prelude.{◌≡◌, ◌<◌, ltb, length, cond};
 ghost use Rattle.runs.specs.ThreeLevels.{leaf_three, node_three};
 ghost use Rattle.plan.specs.PlanFile.{Runnable};

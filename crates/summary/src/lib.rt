@@ -1,5 +1,7 @@
 // A node's summary: for each settled code above 0 the family of the action sets that the chart of three levels gives it. The summary of a leaf, and
 // of a node from those of its two sides.
+#![tactic(auto)]
+
 ghost use Rattle.std.specs.Prelude.{◌≡◌, ◌<◌};
 ghost use Rattle.outcomes.specs.Rows.{row_cell, cell_in3};
 ghost use Rattle.summary.specs.Summary.{family_of, Only, LeafSummary};

@@ -1,4 +1,6 @@
 // A text as a value: what a program writes is put together here, and written once.
+#![tactic(auto)]
+
 ghost use Rattle.std.specs.Prelude.{◌≡◌, ◌∷◌};
 ghost use Rattle.text.specs.Text.{empty, pushed, appended};
 ghost use Rattle.text.specs.Decimal.{decimal};

@@ -1,1 +1,3 @@
 // The two theorems that the product rests on: specs/Theorems.antt states them.
+#![tactic(auto)]
+

@@ -1,4 +1,6 @@
 // The tokens of a typed rule, one after the other, by their numbers.
+#![tactic(auto)]
+
 ghost use Rattle.std.specs.Prelude.{◌≡◌, ◌+◌, ◌≤◌, drop};
 ghost use Rattle.grammar.specs.Next.{parted, stands, word_number, token_number, size, blanks};
 ghost use Rattle.tokens.specs.Tokens.{next_of};

@@ -1,4 +1,6 @@
 // The undo pairs, taken out once: one mask of undos for each action.
+#![tactic(auto)]
+
 ghost use Rattle.std.specs.Prelude.{◌≡◌};
 ghost use Rattle.undos.specs.Masks.{bit, with_undo, Masks};
 

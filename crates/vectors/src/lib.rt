@@ -1,4 +1,6 @@
 // What becomes of a vector, from the bytes of its body. Nothing here reads or writes a file: the program `compare` does.
+#![tactic(auto)]
+
 ghost use Rattle.std.specs.Prelude.{◌≡◌};
 ghost use Rattle.vectors.specs.Groups.{outcome_in};
 

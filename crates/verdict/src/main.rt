@@ -1,5 +1,7 @@
 // Judges a plan file on standard input: it writes `consistent`; or `violated` and the smallest set that breaks the plan's rule, and then the
 // plainest complete run that leaves this set, a line for each entry, leaf and outcome; or `refused` and document 01's number for why.
+#![tactic(auto)]
+
 use libc::{STDIN_FILENO, STDOUT_FILENO};
 
 // An input that is longer than the largest plan file is refused by the number of its first MOST_BYTES + 1 bytes.
