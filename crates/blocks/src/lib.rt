@@ -7,7 +7,7 @@ ghost use Rattle.blocks.specs.Block.{le16, heading_at, body_fits};
 ghost use Rattle.blocks.specs.Area.{fits, written};
 
 // Where a body lies: its first byte, and how many there are.
-#[derive(Drop)]
+#[derive(Clone, Copy)]
 pub struct Part {
     pub at: usize,
     pub len: usize,

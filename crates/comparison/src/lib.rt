@@ -14,7 +14,7 @@ use vectors::outcome::Outcome;
 pub mod lines;
 
 // The first vector that differs: its number, counted from 1, where it stands, and what was expected and found. 0: none.
-#[derive(Drop)]
+#[derive(Clone, Copy)]
 pub struct Difference {
     pub number: u64,
     pub at: usize,
@@ -23,7 +23,7 @@ pub struct Difference {
 }
 
 // The vectors that were compared, those of them that agree, and whether the data file has just those that it says.
-#[derive(Drop)]
+#[derive(Clone, Copy)]
 pub struct Comparison {
     pub vectors: u64,
     pub agree: u64,

@@ -16,7 +16,7 @@ ghost use Rattle.fewest.specs.Search.{welcome, wish_of, wishes, First, is_leaf_o
 pub const NONE: u8 = 64;
 
 // Of a node, for each code the fewest failed entries of its runs under it.
-#[derive(Drop)]
+#[derive(Clone, Copy)]
 pub struct Costs {
     pub by: [u8; 15],
 }

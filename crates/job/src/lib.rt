@@ -15,27 +15,27 @@ use state::Entry;
 
 mod timed;
 
-#[derive(Drop)]
+#[derive(Clone, Copy)]
 pub enum Status {
     Succeeded,
     Failed,
 }
 
 // Whether the run may end here, and if so whether it succeeded.
-#[derive(Drop)]
+#[derive(Clone, Copy)]
 pub enum End {
     Open,
     MayEnd(Status),
 }
 
 // What is told after the start and after each entry taken: bit n of `next` for each leaf n that may come next.
-#[derive(Drop)]
+#[derive(Clone, Copy)]
 pub struct Told {
     pub next: u64,
     pub end: End,
 }
 
-#[derive(Drop)]
+#[derive(Clone, Copy)]
 pub enum Answer {
     Told(Told),
     Refused(u8),
@@ -56,7 +56,7 @@ pub const MOST_WINDOWS: usize = 5 * Job::MOST_ACTIONS as usize;
 
 // A job: the bytes of its plan file, and its record so far, two bytes an entry; and where it is timed, those of its window file and the minute of
 // its last entry. The bytes past each are 0, and what says nothing is 0.
-#[derive(Drop)]
+#[derive(Clone, Copy)]
 pub struct Job {
     pub file: [u8; FILE],
     pub file_len: usize,

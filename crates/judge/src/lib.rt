@@ -16,7 +16,7 @@ pub const WORK: usize = 65536;
 
 pub const RECORD: usize = 126;
 
-#[derive(Drop)]
+#[derive(Clone, Copy)]
 pub enum Judgement {
     Consistent,
     Violated(usize),

@@ -4,7 +4,7 @@
 
 
 // How a process has ended so far. Of a leaf: Open where it has not run.
-#[derive(Drop)]
+#[derive(Clone, Copy)]
 pub enum Ended {
     Open,
     Succeeded,
@@ -13,7 +13,7 @@ pub enum Ended {
 
 // A process at one level: nothing to run; or whether it has begun, how it has ended, and bit n of next for each leaf n that may come
 // next in it.
-#[derive(Drop)]
+#[derive(Clone, Copy)]
 pub struct Cell {
     pub empty: bool,
     pub begun: bool,
@@ -22,7 +22,7 @@ pub struct Cell {
 }
 
 // A process by its levels: its forward run, its undo, and the undo of its undo.
-#[derive(Drop)]
+#[derive(Clone, Copy)]
 pub struct Cells {
     pub forward: Cell,
     pub undo: Cell,
@@ -37,7 +37,7 @@ pub struct Told {
 }
 
 // Forms 3 to 7.
-#[derive(Drop)]
+#[derive(Clone, Copy)]
 pub enum Composite {
     Sequence,
     Parallel,

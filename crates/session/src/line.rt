@@ -5,7 +5,7 @@ ghost use Rattle.session.specs.Line.{digit_after, fresh_line, line_after, begun,
 use state::Entry;
 
 // A number as far as its digits have come: `Wrong` where they are the text of no number up to 4294967295.
-#[derive(Drop)]
+#[derive(Clone, Copy)]
 pub enum Number {
     Unwritten,
     Is(u32),
@@ -13,7 +13,7 @@ pub enum Number {
 }
 
 // A line as far as its bytes have come: its numbers, and how many blanks have parted them so far, 0, 1 or 2.
-#[derive(Drop)]
+#[derive(Clone, Copy)]
 pub struct Line {
     pub leaf: Number,
     pub outcome: Number,

@@ -3,7 +3,7 @@ ghost use Rattle.std.specs.Prelude.{◌≡◌, ◌≤◌};
 ghost use Rattle.sheet.specs.Form.{same_word, form_asked, first_file};
 
 // By lines, or by a table, with its heading or without.
-#[derive(Drop)]
+#[derive(Clone, Copy)]
 pub enum Form {
     Lines,
     Table,

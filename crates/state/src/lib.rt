@@ -10,7 +10,7 @@ ghost use Rattle.state.specs.State.{outcome_of, told_by, leaf_type, type_permits
 use runs::{Cells, Ended, Told};
 
 // An entry of a run: the leaf's node number, then 1 (finished) or 2 (failed).
-#[derive(Drop)]
+#[derive(Clone, Copy)]
 pub struct Entry {
     pub leaf: u8,
     pub outcome: u8,

@@ -10,7 +10,7 @@ ghost use Rattle.summary.specs.Gathered.{Gathered};
 ghost use Rattle.summary.specs.Marks.{CodeMarked, Live, RowOf, Marked, Marks, Among};
 
 // The families of the eleven settled codes above 0. Code 0, not run, has the empty set alone; 5, 8 and 12 have no sets.
-#[derive(Drop)]
+#[derive(Clone, Copy)]
 pub struct Summary {
     pub s1: [u64; 16],
     pub s2: [u64; 16],

@@ -14,7 +14,7 @@ pub mod runs;
 pub mod verdicts;
 
 // `Hours`: vectors as those of `Runs`, from a data file of their own.
-#[derive(Drop)]
+#[derive(Clone, Copy)]
 pub enum Group {
     Files,
     Runs,

@@ -1,0 +1,16 @@
+-- `answers::put_leaves` meets its contract. The invariant: what is left of the leaves, put into the text so far, gives what all of them give.
+use mathlib.Core.Path.{◌≡◌, sym, ◌∙◌}
+use Prim.Native.Nat.{◌-◌, ◌≤◌}
+use Rattle.text.specs.Text.{appended}
+use Rattle.text.specs.Lines.{each}
+use Rattle.text.proofs.Ends.{each_step, each_end}
+use Rattle.answers.specs.Lines.{leaf_text}
+use borrow.Author.Rules.{rules}
+use native.Mathlib.Omega.{arith}
+use Rattle.answers.proofs.put_leaves.Given as goal
+
+abbrev pub invariant-loop-leaf : goal.invariant-loop-leaf
+invariant-loop-leaf l = (l.leaf ≤ 64) × (appended l.initial.grown (each (leaf_text l.next) 0 64) ≡ appended l.grown (each (leaf_text l.next) l.leaf (64 - l.leaf)))
+
+abbrev pub decreases-loop-leaf : goal.decreases-loop-leaf
+decreases-loop-leaf l = 64 - l.leaf

@@ -1,0 +1,50 @@
+-- `blocks::copy` meets its contract. The loop's invariant: the first i bytes of the source stand in the area (`Pasted`).
+use mathlib.Core.Path.{refl, sym, ◌∙◌}
+use Prim.Native.Nat.{◌-◌}
+use native.Mathlib.Omega.{arith}
+use lib.ListN.{length}
+use borrow.Author.Rules.{rules}
+use borrow.Author.Tests.{leb-true, le-leb, not-true, not-false}
+use Rattle.blocks.proofs.Area.{Pasted, pasted_none, pasted_more, pasted_all, unwritten}
+use Rattle.blocks.proofs.copy.Goals as goal
+
+pub returns-then-not-within : goal.returns-then-not-within
+returns-then-not-within c =
+    let a = c.args in
+    let e = sym c.within.ensures ∙ not-true _ c.if-not-within.true in
+    (sym e, unwritten a.dst.now a.at a.src.now (length a.src.now) refl e)
+
+pub loop-i-init : goal.loop-i-init
+loop-i-init c =
+    let a = c.args in
+    pasted_none a.dst.now a.at a.src.now (length a.src.now) refl (leb-true _ _ (sym c.within.ensures ∙ not-false _ c.if-not-within.false))
+
+pub bounds-src-i : goal.bounds-src-i
+bounds-src-i c = omega arith
+
+pub overflow_add-dst : goal.overflow_add-dst
+overflow_add-dst c = omega arith
+
+pub bounds-dst-at : goal.bounds-dst-at
+bounds-dst-at c = omega arith
+
+pub overflow_add-i : goal.overflow_add-i
+overflow_add-i c = omega arith
+
+pub loop-i-smaller : goal.loop-i-smaller
+loop-i-smaller c = omega arith
+
+pub loop-i-preserved : goal.loop-i-preserved
+loop-i-preserved c =
+    let a = c.args in
+    pasted_more a.dst.now a.at a.src.now (length a.src.now) c.loop-i.i c.loop-i.dst _ (omega arith) refl c.loop-i.invariant
+
+pub shape_of-dst : goal.shape_of-dst
+shape_of-dst c = c.loop-i.invariant.long
+
+pub returns : goal.returns
+returns c =
+    let a = c.args in (
+      sym (le-leb _ _ c.loop-i.invariant.room),
+      pasted_all a.dst.now a.at a.src.now (length a.src.now) c.loop-i.i c.loop-i.dst (omega arith) c.loop-i.invariant,
+    )

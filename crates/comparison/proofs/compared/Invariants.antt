@@ -1,0 +1,19 @@
+-- `comparison::compared` meets its contract. The invariant: what is left to compare, from where it stands, comes to what the whole comes to;
+-- and the counts stay within the number of vectors.
+use mathlib.Core.Path.{◌≡◌, refl, sym, ap, ◌∙◌}
+use mathlib.Core.Bool.{Bool}
+use Prim.Native.Nat.{◌+◌, ◌≤◌}
+use borrow.Author.Tests.{not-true, not-false}
+use Rattle.comparison.specs.Data.{counted, compared_from}
+use Rattle.comparison.specs.declared.Comparison.{Comparison}
+use Rattle.comparison.proofs.Vectors.{grows, counted_whole, goes_on, stops, at_end, not_at_end, too_short, all_compared}
+use borrow.Author.Rules.{rules}
+use native.Mathlib.Omega.{arith}
+use Rattle.comparison.proofs.compared.Given as goal
+
+abbrev pub invariant-loop-left : goal.invariant-loop-left
+invariant-loop-left l =
+    (l.c.agree ≤ l.c.vectors) × (l.c.vectors + l.left ≤ 4294967295) × (compared_from l.initial.left l.group l.s l.initial.at l.initial.c ≡ compared_from l.left l.group l.s l.at l.c)
+
+abbrev pub decreases-loop-left : goal.decreases-loop-left
+decreases-loop-left l = l.left

@@ -1,0 +1,16 @@
+-- `fewest::candidates` meets its contract: so many are among the nodes passed.
+use mathlib.Core.Path.{◌≡◌, refl}
+use mathlib.Core.Bool.{cond}
+use Prim.Native.Nat.{◌-◌, ◌≤◌}
+use Rattle.nodes.specs.Nodes.{count}
+use Rattle.fewest.specs.Search.{candidate, count_where}
+use Rattle.fewest.proofs.Below.{count_more, counted_low}
+use borrow.Author.Rules.{rules}
+use native.Mathlib.Omega.{arith}
+use Rattle.fewest.proofs.candidates.Given as goal
+
+abbrev pub invariant-loop-i : goal.invariant-loop-i
+invariant-loop-i l = (l.n ≡ count l.nodes) × (l.i ≤ l.n) × (l.many ≤ l.i) × (l.many ≡ count_where l.i (candidate l.nodes l.table l.a))
+
+abbrev pub decreases-loop-i : goal.decreases-loop-i
+decreases-loop-i l = l.n - l.i

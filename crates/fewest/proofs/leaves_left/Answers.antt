@@ -1,0 +1,38 @@
+-- `fewest::leaves_left` meets its contract: so many are among the nodes passed.
+use mathlib.Core.Path.{◌≡◌, refl}
+use mathlib.Core.Bool.{cond}
+use Prim.Native.Nat.{◌-◌, ◌≤◌}
+use Rattle.nodes.specs.Nodes.{count}
+use Rattle.fewest.specs.Search.{is_left, count_where}
+use Rattle.fewest.proofs.Below.{count_more, counted_low}
+use borrow.Author.Rules.{rules}
+use native.Mathlib.Omega.{arith}
+use Rattle.fewest.proofs.leaves_left.Goals as goal
+
+pub loop-i-init : goal.loop-i-init
+loop-i-init c = (refl, omega arith, omega arith, refl)
+
+pub is_left-requires : goal.is_left-requires
+is_left-requires c =
+    (c.requires.0, c.requires.1, omega arith)
+
+pub overflow_add-many : goal.overflow_add-many
+overflow_add-many c = omega (arith, c.one_if-many.ensures, counted_low c.is_left.result)
+
+pub overflow_add-i : goal.overflow_add-i
+overflow_add-i c = omega arith
+
+pub loop-i-smaller : goal.loop-i-smaller
+loop-i-smaller c = omega arith
+
+pub loop-i-preserved : goal.loop-i-preserved
+loop-i-preserved c =
+    let a = c.args in
+    let test = is_left a.types.now a.nodes.now a.set a.table.now a.a a.best in
+    let e : c.one_if-many.result ≡ cond (test c.loop-i.i) 1 0 = rw c.is_left.ensures at c.one_if-many.ensures in
+    (c.loop-i.invariant.0, omega arith, omega (arith, c.one_if-many.ensures, counted_low c.is_left.result), rw e (count_more c.loop-i.i test c.loop-i.many c.loop-i.invariant.3))
+
+pub returns : goal.returns
+returns c =
+    let e : c.loop-i.i ≡ count c.args.nodes.now = omega arith in
+    rw e at c.loop-i.invariant.3

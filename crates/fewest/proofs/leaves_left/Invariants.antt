@@ -1,0 +1,16 @@
+-- `fewest::leaves_left` meets its contract: so many are among the nodes passed.
+use mathlib.Core.Path.{◌≡◌, refl}
+use mathlib.Core.Bool.{cond}
+use Prim.Native.Nat.{◌-◌, ◌≤◌}
+use Rattle.nodes.specs.Nodes.{count}
+use Rattle.fewest.specs.Search.{is_left, count_where}
+use Rattle.fewest.proofs.Below.{count_more, counted_low}
+use borrow.Author.Rules.{rules}
+use native.Mathlib.Omega.{arith}
+use Rattle.fewest.proofs.leaves_left.Given as goal
+
+abbrev pub invariant-loop-i : goal.invariant-loop-i
+invariant-loop-i l = (l.n ≡ count l.nodes) × (l.i ≤ l.n) × (l.many ≤ l.i) × (l.many ≡ count_where l.i (is_left l.types l.nodes l.set l.table l.a l.best))
+
+abbrev pub decreases-loop-i : goal.decreases-loop-i
+decreases-loop-i l = l.n - l.i

@@ -1,0 +1,16 @@
+-- `fewest::node` meets its contract: the costs so far are those of the left codes passed.
+use mathlib.Core.Path.{◌≡◌, refl}
+use Prim.Native.Nat.{◌-◌, ◌≤◌}
+use native.Mathlib.Numerals.{add-one}
+use Rattle.outcomes.specs.Rows.{cell_in3}
+use Rattle.fewest.specs.Costs.{node_costs}
+use borrow.Author.Rules.{rules}
+use native.Mathlib.Omega.{arith}
+use Rattle.fewest.proofs.node.Given as goal
+
+abbrev pub invariant-loop-l : goal.invariant-loop-l
+invariant-loop-l l =
+    (l.l ≤ 15) × (record { l.by = l.by } ≡ node_costs (cell_in3 l.rows l.form) (record { l.by = l.left }) (record { l.by = l.right }) l.l)
+
+abbrev pub decreases-loop-l : goal.decreases-loop-l
+decreases-loop-l l = 15 - l.l

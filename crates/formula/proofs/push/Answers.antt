@@ -1,0 +1,22 @@
+-- `formula::push` meets its contract: the byte takes the place of the first zero behind those so far.
+use mathlib.Core.Path.{◌≡◌, refl}
+use mathlib.Core.List.{List, [], ◌∷◌, ◌++◌, append_assoc}
+use Prim.Native.Nat.{ℕ, suc, ◌+◌, ◌-◌, ◌<◌}
+use native.Mathlib.Omega.{arith}
+use lib.ListN.{length, replicate, set, length-append}
+use lib.Seq.{set-append_seam}
+use borrow.Author.Rules.{rules}
+use Rattle.formula.specs.Answer.{room}
+use Rattle.formula.proofs.push.Goals as goal
+
+grown : (p : List ℕ) (b : ℕ) → length p < room
+    → set (p ++ replicate (room - length p) 0) (length p) b ≡ (p ++ (b ∷ [])) ++ replicate (room - length (p ++ (b ∷ []))) 0
+grown p b h =
+    let e : room - length p ≡ suc (room - (length p + 1)) = omega arith in
+    rw (length-append p (b ∷ []), append_assoc p (b ∷ []), e, set-append_seam p 0)
+
+pub returns-then-len-lt127 : goal.returns-then-len-lt127
+returns-then-len-lt127 c = record { stays = refl; holds = λ p h l. record { counted = rw (length-append p, h.counted); written = rw (h.counted, h.written) (grown p c.args.b l) } }
+
+pub returns-else-len-lt127 : goal.returns-else-len-lt127
+returns-else-len-lt127 c = record { stays = refl; holds = λ p h l. absurd (let k = h.counted in omega arith) }

@@ -1,0 +1,10 @@
+-- `formula::read` meets its contract: the readers write the postfix list of a text that is a rule.
+use Rattle.formula.proofs.Turning as turning
+use Rattle.formula.proofs.read.Goals as goal
+
+pub implication-end-requires : goal.implication-end-requires
+implication-end-requires c = tt
+
+pub returns : goal.returns
+returns c =
+    turning.read c.requires.0 c.requires.1 c.implication-end.ensures

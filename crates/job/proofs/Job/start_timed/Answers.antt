@@ -1,0 +1,15 @@
+-- `job::Job::start_timed` meets its contract: what the plan file reads as decides.
+use mathlib.Core.Path.{sym, ◌∙◌}
+use borrow.Author.Rules.{rules}
+use Rattle.job.proofs.Job.start_timed.Goals as goal
+
+pub start_with-requires : goal.start_with-requires
+start_with-requires c = sym c.read.ensures ∙ c.l-1.given.1
+
+pub returns-in-Refused : goal.returns-in-Refused
+returns-in-Refused c =
+    rw (← c.read.ensures, c.n-1.given.1, ← c.no_job_lem.ensures) c.refuse.ensures
+
+pub returns-in-Accepted : goal.returns-in-Accepted
+returns-in-Accepted c =
+    rw (← c.read.ensures, c.l-1.given.1) c.start_with.ensures

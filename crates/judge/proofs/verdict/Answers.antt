@@ -1,0 +1,33 @@
+-- `judge::verdict` meets its contract: each refusal in its order changes nothing, and an accepted file is judged.
+use native.Mathlib.Omega.{arith}
+use mathlib.Core.Path.{refl, sym, ◌∙◌}
+use lib.ListN.{length}
+use borrow.Author.Rules.{rules}
+use Rattle.judge.proofs.Demand3.{short_work, short_record, refused_file}
+use Rattle.judge.proofs.verdict.Goals as goal
+
+pub returns-then-work-lt-WORK : goal.returns-then-work-lt-WORK
+returns-then-work-lt-WORK c =
+    let a = c.args in
+    record { answer = sym (short_work a.file.now (length a.work.now) (length a.«record».now) (omega arith)); work_after_lem = refl; record_after = refl }
+
+pub returns-then-record-lt-RECORD : goal.returns-then-record-lt-RECORD
+returns-then-record-lt-RECORD c =
+    let a = c.args in
+    record { answer = sym (short_record a.file.now (length a.work.now) (length a.«record».now) (omega arith) (omega arith)); work_after_lem = refl; record_after = refl }
+
+pub judge_file-requires : goal.judge_file-requires
+judge_file-requires c =
+    (sym c.read.ensures ∙ c.l-1.given.1, omega arith, omega arith)
+
+pub returns-in-Refused : goal.returns-in-Refused
+returns-in-Refused c =
+    let a = c.args in
+    record {
+      answer = sym (refused_file a.file.now (length a.work.now) (length a.«record».now) (omega arith) (omega arith) _ (sym c.read.ensures ∙ c.n-1.given.1));
+      work_after_lem = refl;
+      record_after = refl;
+    }
+
+pub returns-in-Accepted : goal.returns-in-Accepted
+returns-in-Accepted c = c.judge_file.ensures

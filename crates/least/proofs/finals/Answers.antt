@@ -1,0 +1,7 @@
+-- `least::finals` meets its contract.
+use borrow.Author.Rules.{rules}
+use Rattle.least.proofs.Whole.{finals_joined}
+use Rattle.least.proofs.finals.Goals as goal
+
+pub returns : goal.returns
+returns c = finals_joined c.args.s _ _ _ c.join-not_undone.ensures c.join-failed.ensures c.join.ensures

@@ -1,0 +1,21 @@
+-- `class::heading` meets its contract, case by case.
+use mathlib.Core.Path.{◌≡◌, refl, sym, ap, ap₂}
+use mathlib.Core.List.{[], ◌∷◌}
+use Prim.Native.Nat.{ℕ, ◌<◌, ◌/◌, ◌%◌}
+use native.Mathlib.Omega.{arith}
+use Rattle.judge.specs.Verdict.{set_given}
+use Rattle.judge.specs.declared.Judgement.{Judgement}
+use borrow.Author.Rules.{rules}
+use Rattle.place.proofs.heading.Goals as goal
+
+pub overflow_cast-result-in-Violated : goal.overflow_cast-result-in-Violated
+overflow_cast-result-in-Violated c = let h : set_given c.args.j < 65536 = c.requires in let e = ap set_given c.j-1.given.1 in record { fits = omega arith }
+
+pub returns-in-Consistent : goal.returns-in-Consistent
+returns-in-Consistent c = rw c.enum_told-1.given.1
+
+pub returns-in-Violated : goal.returns-in-Violated
+returns-in-Violated c = rw c.j-1.given.1
+
+pub returns-in-Refused : goal.returns-in-Refused
+returns-in-Refused c = rw c.j-in-Refused-1.given.1 (ap₂ (λ (x y : ℕ). 2 ∷ x ∷ y ∷ c.args.n ∷ []) (omega arith) (omega arith))

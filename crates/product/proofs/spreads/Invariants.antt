@@ -1,0 +1,16 @@
+-- `product::spreads` meets its contract: after k turns the table is right below 2 ^ k.
+use mathlib.Core.Path.{◌≡◌, subst}
+use Prim.Native.Nat.{ℕ, ◌-◌, ◌^◌, ◌≤◌}
+use lib.ListN.{replicate}
+use lib.Pow.{pow_mono}
+use Rattle.product.specs.Steps.{Spreads}
+use Rattle.product.proofs.Tables.{spreads_first, spreads_doubled}
+use borrow.Author.Rules.{rules}
+use native.Mathlib.Omega.{arith}
+use Rattle.product.proofs.spreads.Given as goal
+
+abbrev pub invariant-loop-k : goal.invariant-loop-k
+invariant-loop-k l = (l.k ≤ 6) × Spreads l.w (2 ^ l.k) l.s
+
+abbrev pub decreases-loop-k : goal.decreases-loop-k
+decreases-loop-k l = 6 - l.k

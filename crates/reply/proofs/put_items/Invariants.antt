@@ -1,0 +1,16 @@
+-- `reply::put_items` meets its contract. The invariant: what is left of the bytes, put into the text so far, gives what all of them give.
+use mathlib.Core.Path.{◌≡◌, sym, ◌∙◌}
+use Prim.Native.Nat.{◌-◌, ◌≤◌, min}
+use native.Mathlib.Omega.{arith}
+use borrow.Author.Rules.{rules}
+use Rattle.text.specs.Lines.{each}
+use Rattle.text.specs.Text.{appended}
+use Rattle.text.proofs.Ends.{each_step, each_end}
+use Rattle.reply.specs.Line.{item_at}
+use Rattle.reply.proofs.put_items.Given as goal
+
+abbrev pub invariant-loop-i : goal.invariant-loop-i
+invariant-loop-i l = (l.i ≤ 127) × (appended l.initial.grown (each (item_at l.bytes) 0 (min l.n 127)) ≡ appended l.grown (each (item_at l.bytes) l.i (min l.n 127 - l.i)))
+
+abbrev pub decreases-loop-i : goal.decreases-loop-i
+decreases-loop-i l = 127 - l.i

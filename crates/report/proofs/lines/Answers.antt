@@ -1,0 +1,19 @@
+-- `report::lines` meets its contract: the lines have room in a text.
+use mathlib.Core.Path.{◌≡◌}
+use native.Mathlib.Omega.{arith}
+use mir.Val.{Fits}
+use mir.Syntax.{w8}
+use lib.ListN.{length, get_or}
+use borrow.Author.Rules.{rules}
+use Rattle.report.specs.Lines.{verdict_lines}
+use Rattle.text.proofs.Ends.{put_alone}
+use Rattle.report.proofs.Lengths.{Bytes, verdict_length}
+use Rattle.report.proofs.lines.Goals as goal
+
+pub returns : goal.returns
+returns c =
+    let v = c.args.j in
+    let run = c.args.run in
+    let long : length run ≡ 126 = omega (arith, c.well-formed.1.0) in
+    let bytes : Bytes run = λ k l. let fits : Fits w8 (get_or run k 0) = search (rules, c.well-formed.1.0) in omega arith in
+    put_alone (verdict_lines v run) c.put_verdict.ensures c.empty.ensures (verdict_length v run long bytes)

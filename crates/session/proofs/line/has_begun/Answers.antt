@@ -1,0 +1,6 @@
+-- `session::line::has_begun` meets its contract, row by row.
+use borrow.Author.Rules.{rules}
+use Rattle.session.proofs.line.has_begun.Goals as goal
+
+pub returns-in-Unwritten : goal.returns-in-Unwritten
+returns-in-Unwritten c = rw c.enum_told-1.given.1

@@ -1,0 +1,6 @@
+-- `session::line::with_minute` meets its contract, row by row.
+use borrow.Author.Rules.{rules}
+use Rattle.session.proofs.line.with_minute.Goals as goal
+
+pub returns-in-Is : goal.returns-in-Is
+returns-in-Is c = rw c.minute-1.given.1

@@ -1,0 +1,6 @@
+-- `session::line::with_outcome` meets its contract, row by row.
+use borrow.Author.Rules.{rules}
+use Rattle.session.proofs.line.with_outcome.Goals as goal
+
+pub returns-in-Is : goal.returns-in-Is
+returns-in-Is c = rw c.outcome-1.given.1 c.entry_with.ensures

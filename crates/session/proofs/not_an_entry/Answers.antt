@@ -1,0 +1,6 @@
+-- `session::not_an_entry` meets its contract: the line is a fresh one.
+use borrow.Author.Rules.{rules}
+use Rattle.session.proofs.not_an_entry.Goals as goal
+
+pub returns : goal.returns
+returns c = rw c.next_line.ensures

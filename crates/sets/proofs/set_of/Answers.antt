@@ -1,0 +1,26 @@
+-- `sets::set_of` meets its contract.
+use mathlib.Core.Path.{◌≡◌, sym, ◌∙◌}
+use Prim.Native.Nat.{◌<◌}
+use native.Mathlib.Omega.{arith}
+use borrow.Author.Rules.{rules}
+use borrow.Author.Tests.{eqb-true, eq-eqb, ne_eqb}
+use Rattle.family.proofs.Bits.{one_shifted}
+use Rattle.nodes.specs.Nodes.{left}
+use Rattle.sets.proofs.set_of.Goals as goal
+
+-- the action's number is below ten
+few : (c : tie.Then1) → c.node_at-x.result.left < 10
+few c =
+    let e = c.node_at-x.ensures in
+    rw e (c.requires.1 (rw e at c.if-f-eq0.true))
+
+pub overflow_shl-result : goal.overflow_shl-result
+overflow_shl-result c = omega (arith, few c)
+
+pub returns-then-f-eq0 : goal.returns-then-f-eq0
+returns-then-f-eq0 c =
+    let e = c.node_at-x.ensures in
+    one_shifted c.node_at-x.result.left (omega (arith, few c)) ∙ rw (e, eq-eqb _ _ (rw e at c.if-f-eq0.true))
+
+pub returns : goal.returns
+returns c = rw (ne_eqb _ _ (rw c.node_at-x.ensures at c.if-f-eq0.false))

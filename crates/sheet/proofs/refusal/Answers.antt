@@ -1,0 +1,11 @@
+-- `sheet::refusal` meets its contract: the line has room in a text.
+use Rattle.text.specs.Lines.{numbered, refused}
+use Rattle.text.proofs.Ends.{put_alone, numbered_short}
+use native.Mathlib.Omega.{arith}
+use borrow.Author.Rules.{rules}
+use Rattle.sheet.proofs.refusal.Goals as goal
+
+pub returns : goal.returns
+returns c =
+    let n = c.args.number in
+    put_alone (numbered refused n) c.put_numbered.ensures c.empty.ensures (omega (arith, numbered_short refused n (omega arith)))

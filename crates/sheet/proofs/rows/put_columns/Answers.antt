@@ -1,0 +1,12 @@
+-- `sheet::rows::put_columns` meets its contract: the word, the number and the tab, one after the other.
+use mathlib.Core.Path.{◌∙◌}
+use Rattle.text.specs.Decimal.{decimal}
+use Rattle.sheet.proofs.Cells.{put_columns}
+use borrow.Author.Rules.{rules}
+use Rattle.sheet.proofs.rows.put_columns.Goals as goal
+
+pub returns : goal.returns
+returns c =
+    let a = c.args in
+    let word = a.word.now in
+    c.push.ensures ∙ rw (c.put_decimal.ensures, c.put.ensures) (put_columns a.t word (decimal a.number))

@@ -1,0 +1,24 @@
+-- `state::told_by` meets its contract: the cells of the nodes passed are filled in, each part of a node before it.
+use mathlib.Core.Path.{◌≡◌, refl, ap, ◌∙◌}
+use Prim.Native.Nat.{◌-◌, ◌/◌, ◌<◌}
+use native.Mathlib.Omega.{arith}
+use mathlib.Core.Bool.{false, cond}
+use lib.Dec.{ltb}
+use lib.ListN.{length, get_or}
+use borrow.Author.Rules.{rules}
+use Rattle.nodes.specs.Nodes.{count, form, left, right}
+use Rattle.nodes.proofs.Filled.{Filled, filled_none, filled_more}
+use Rattle.plan.proofs.Tree.{parts_smaller}
+use Rattle.runs.specs.ThreeLevels.{told_three}
+use Rattle.runs.specs.declared.Ended.TheVariants.{Open}
+use Rattle.runs.specs.declared.Cell.{Cell}
+use Rattle.runs.specs.declared.Cells.{Cells}
+use Rattle.state.specs.State.{leaf_cells, node_cells, told_by}
+use Rattle.state.proofs.Sides.{left_small, right_small}
+use Rattle.state.proofs.told_by.Given as goal
+
+abbrev pub invariant-loop-i : goal.invariant-loop-i
+invariant-loop-i l = (l.n ≡ count l.nodes) × Filled (leaf_cells l.table) (node_cells l.nodes) l.nodes blank 63 l.i l.cells
+
+abbrev pub decreases-loop-i : goal.decreases-loop-i
+decreases-loop-i l = l.n - l.i

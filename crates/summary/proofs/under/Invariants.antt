@@ -1,0 +1,17 @@
+-- `summary::under` meets its contract: the left codes passed are joined in (`Joining`), those that are not marked having no part in it.
+use mathlib.Core.Path.{◌≡◌, subst}
+use mathlib.Core.Logic.{inl, inr}
+use Prim.Native.Nat.{ℕ, ◌-◌, ◌≤◌}
+use Rattle.outcomes.specs.Rows.{cell_in3}
+use Rattle.summary.specs.Marks.{Among}
+use Rattle.summary.proofs.Rows.{gathered_by_row}
+use Rattle.summary.proofs.Sides.{left_added, left_passed, Joining, joining_none, joining_more, joined_all, joined_none}
+use borrow.Author.Rules.{rules}
+use native.Mathlib.Omega.{arith}
+use Rattle.summary.proofs.under.Given as goal
+
+abbrev pub invariant-loop-left : goal.invariant-loop-left
+invariant-loop-left l = (l.left ≤ 15) × (Among (cell_in3 l.table l.form) l.code l.a l.b l.lefts → Joining (cell_in3 l.table l.form) l.code l.a l.b l.left l.u)
+
+abbrev pub decreases-loop-left : goal.decreases-loop-left
+decreases-loop-left l = 15 - l.left

@@ -1,0 +1,14 @@
+-- `vectors::runs::started` meets its contract: each return by the test that led there.
+use mathlib.Core.Path.{sym, ◌∙◌}
+use borrow.Author.Tests.{not-true, not-false}
+use borrow.Author.Rules.{rules}
+use Rattle.vectors.specs.Runs.{started_with}
+use Rattle.vectors.proofs.runs.started.Goals as goal
+
+pub returns-then-not-is_answer : goal.returns-then-not-is_answer
+unfolding started_with
+returns-then-not-is_answer c = rw (sym c.is_answer.ensures ∙ not-true _ c.if-not-is_answer.true) c.held.ensures
+
+pub returns : goal.returns
+unfolding started_with
+returns c = rw (sym c.is_answer.ensures ∙ not-false _ c.if-not-is_answer.false) c.continued.ensures

@@ -1,0 +1,22 @@
+-- `vectors::verdicts::compare` meets its contract: the number expected is the first four bytes, and number and record area found are those of the
+-- verdict on the bytes after the 131st.
+use mathlib.Core.Path.{◌≡◌}
+use lib.ListN.{length, get_or, drop}
+use Rattle.judge.specs.Verdict.{record_size, code_of}
+use Rattle.vectors.specs.Verdicts.{verdict_with, record_with}
+use Rattle.vectors.proofs.Rest.{rest}
+use borrow.Author.Tests.{lt-ltb, le-ltb}
+use borrow.Author.Rules.{rules}
+use Rattle.vectors.proofs.verdicts.compare.Goals as goal
+
+pub returns-then-body-lt131 : goal.returns-then-body-lt131
+returns-then-body-lt131 c = simp (lt-ltb _ _ c.if-body-lt131.true)
+
+pub returns : goal.returns
+returns c =
+    let body = c.args.body.now in
+    let short = get_or body 4 0 in
+    let code : c.code_in-found.result ≡ code_of (verdict_with short (drop 131 body)) = rw (← rest 131 body) c.code_in-found.ensures.0 in
+    let shown : c.code_in-found.new.1.1.1.0 ≡ record_with short (drop 131 body) = rw (← rest 131 body) c.code_in-found.ensures.1 in
+    let long : length c.code_in-found.new.1.1.1.0 ≡ record_size = c.code_in-found.auto.1.1.1.0 in
+    rw (le-ltb _ _ c.if-body-lt131.false, ← code, ← shown, ← c.four_at.ensures.0) (rw long at c.held_answer.ensures)
