@@ -11,13 +11,13 @@ use Rattle.blocks.proofs.clear.Goals as goal
 pub returns-then-not-within : goal.returns-then-not-within
 returns-then-not-within c =
     let a = c.args in
-    let e = sym c.within.ensures ∙ not-true _ c.if-not-within.true in
+    let e = sym c.within.ensures ∙ c.if-not-within.true in
     (sym e, unwritten a.dst.now a.at (replicate a.n 0) a.n (length-replicate a.n 0) e)
 
 pub loop-i-init : goal.loop-i-init
 loop-i-init c =
     let a = c.args in
-    pasted_none a.dst.now a.at (replicate a.n 0) a.n (length-replicate a.n 0) (leb-true _ _ (sym c.within.ensures ∙ not-false _ c.if-not-within.false))
+    pasted_none a.dst.now a.at (replicate a.n 0) a.n (length-replicate a.n 0) (leb-true _ _ (sym c.within.ensures ∙ c.if-not-within.false))
 
 pub overflow_add-dst : goal.overflow_add-dst
 overflow_add-dst c = omega arith

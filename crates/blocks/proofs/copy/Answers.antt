@@ -11,13 +11,13 @@ use Rattle.blocks.proofs.copy.Goals as goal
 pub returns-then-not-within : goal.returns-then-not-within
 returns-then-not-within c =
     let a = c.args in
-    let e = sym c.within.ensures ∙ not-true _ c.if-not-within.true in
+    let e = sym c.within.ensures ∙ c.if-not-within.true in
     (sym e, unwritten a.dst.now a.at a.src.now (length a.src.now) refl e)
 
 pub loop-i-init : goal.loop-i-init
 loop-i-init c =
     let a = c.args in
-    pasted_none a.dst.now a.at a.src.now (length a.src.now) refl (leb-true _ _ (sym c.within.ensures ∙ not-false _ c.if-not-within.false))
+    pasted_none a.dst.now a.at a.src.now (length a.src.now) refl (leb-true _ _ (sym c.within.ensures ∙ c.if-not-within.false))
 
 pub bounds-src-i : goal.bounds-src-i
 bounds-src-i c = omega arith

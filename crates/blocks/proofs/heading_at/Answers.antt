@@ -8,13 +8,13 @@ use borrow.Author.Tests.{leb-true, not-true, not-false}
 use Rattle.blocks.proofs.heading_at.Goals as goal
 
 pub returns-then-not-within : goal.returns-then-not-within
-returns-then-not-within c = rw (sym c.within.ensures ∙ not-true _ c.if-not-within.true)
+returns-then-not-within c = rw (sym c.within.ensures ∙ c.if-not-within.true)
 
 -- the heading lies inside
 inside : (c : tie.Else1) → c.args.at + 4 ≤ length c.args.s.now
 inside c =
     let a = c.args in
-    leb-true (a.at + 4) (length a.s.now) (sym c.within.ensures ∙ not-false _ c.if-not-within.false)
+    leb-true (a.at + 4) (length a.s.now) (sym c.within.ensures ∙ c.if-not-within.false)
 
 pub overflow_add-at : goal.overflow_add-at
 overflow_add-at c = omega (arith, inside c)
@@ -27,4 +27,4 @@ number_at-len-requires c = omega (arith, inside c.before)
 
 pub returns : goal.returns
 returns c =
-    rw (sym c.within.ensures ∙ not-false _ c.if-not-within.false, c.number_at-len.ensures.0, c.number_at-kind.ensures.0)
+    rw (sym c.within.ensures ∙ c.if-not-within.false, c.number_at-len.ensures.0, c.number_at-kind.ensures.0)

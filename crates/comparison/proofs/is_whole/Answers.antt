@@ -9,10 +9,10 @@ use Rattle.comparison.proofs.is_whole.Goals as goal
 
 pub returns-then-not-is_named : goal.returns-then-not-is_named
 unfolding is_whole
-returns-then-not-is_named c = rw (sym c.is_named.ensures ∙ not-true _ c.if-not-is_named.true)
+returns-then-not-is_named c = rw (sym c.is_named.ensures ∙ c.if-not-is_named.true)
 
 pub body_start-requires : goal.body_start-requires
-body_start-requires c = sym c.is_named.ensures ∙ not-false _ c.if-not-is_named.false
+body_start-requires c = sym c.is_named.ensures ∙ c.if-not-is_named.false
 
 pub overflow_sub-room : goal.overflow_sub-room
 overflow_sub-room c = omega (arith, c.body_start.ensures.1)
@@ -23,4 +23,4 @@ overflow_add-at c = omega (arith, c.body_start.ensures.0, c.body_start.ensures.1
 pub returns : goal.returns
 unfolding is_whole
 returns c =
-    rw (c.four_at-n.ensures.0, c.body_start.ensures.0) (whole_by _ _ (sym c.is_named.ensures ∙ not-false _ c.if-not-is_named.false))
+    rw (c.four_at-n.ensures.0, c.body_start.ensures.0) (whole_by _ _ (sym c.is_named.ensures ∙ c.if-not-is_named.false))

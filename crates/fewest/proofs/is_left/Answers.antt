@@ -6,7 +6,7 @@ use borrow.Author.Rules.{rules}
 use Rattle.fewest.proofs.is_left.Goals as goal
 
 pub returns-then-not-is_candidate : goal.returns-then-not-is_candidate
-returns-then-not-is_candidate c = rw (sym c.is_candidate.ensures ∙ not-true _ c.if-not-is_candidate.true)
+returns-then-not-is_candidate c = rw (sym c.is_candidate.ensures ∙ c.if-not-is_candidate.true)
 
 pub with_finished-t-requires : goal.with_finished-t-requires
 with_finished-t-requires c =
@@ -19,4 +19,4 @@ fold-requires c =
 pub returns : goal.returns
 returns c =
     let e = c.fold.ensures in
-    rw (sym c.is_candidate.ensures ∙ not-false _ c.if-not-is_candidate.false, e, c.with_finished-t.ensures)
+    rw (sym c.is_candidate.ensures ∙ c.if-not-is_candidate.false, e, c.with_finished-t.ensures)

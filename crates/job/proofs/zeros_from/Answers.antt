@@ -27,7 +27,7 @@ bounds-s-i c = omega arith
 pub returns-then-not-zero_past : goal.returns-then-not-zero_past
 returns-then-not-zero_past c =
     let a = c.args in
-    sym (every_fails (test a.s.now a.at) (length a.s.now) c.loop-i.i (omega arith) (sym c.zero_past.ensures ∙ not-true _ c.if-not-zero_past.true))
+    sym (every_fails (test a.s.now a.at) (length a.s.now) c.loop-i.i (omega arith) (sym c.zero_past.ensures ∙ c.if-not-zero_past.true))
 
 pub overflow_add-i : goal.overflow_add-i
 overflow_add-i c = omega arith
@@ -38,7 +38,7 @@ loop-i-smaller c = omega arith
 pub loop-i-preserved : goal.loop-i-preserved
 loop-i-preserved c =
     let a = c.args in
-    passed_more (test a.s.now a.at) (length a.s.now) c.loop-i.i (omega arith) (sym c.zero_past.ensures ∙ not-false _ c.if-not-zero_past.false) c.loop-i.invariant
+    passed_more (test a.s.now a.at) (length a.s.now) c.loop-i.i (omega arith) (sym c.zero_past.ensures ∙ c.if-not-zero_past.false) c.loop-i.invariant
 
 pub returns : goal.returns
 returns c =

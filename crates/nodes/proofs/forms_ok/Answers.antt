@@ -27,7 +27,7 @@ pub returns-then-not-node_ok : goal.returns-then-not-node_ok
 returns-then-not-node_ok c =
     let a = c.args in
     let e = rw c.node_at.ensures at c.node_ok.ensures in
-    sym (every_fails (test a.b.now a.actions) (count a.b.now) c.loop-i.i (omega arith) (sym e ∙ not-true _ c.if-not-node_ok.true))
+    sym (every_fails (test a.b.now a.actions) (count a.b.now) c.loop-i.i (omega arith) (sym e ∙ c.if-not-node_ok.true))
 
 pub overflow_add-i : goal.overflow_add-i
 overflow_add-i c = omega arith
@@ -39,7 +39,7 @@ pub loop-i-preserved : goal.loop-i-preserved
 loop-i-preserved c =
     let a = c.args in
     let e = rw c.node_at.ensures at c.node_ok.ensures in
-    (c.loop-i.invariant.0, passed_more (test a.b.now a.actions) (count a.b.now) c.loop-i.i (omega arith) (sym e ∙ not-false _ c.if-not-node_ok.false) c.loop-i.invariant.1)
+    (c.loop-i.invariant.0, passed_more (test a.b.now a.actions) (count a.b.now) c.loop-i.i (omega arith) (sym e ∙ c.if-not-node_ok.false) c.loop-i.invariant.1)
 
 pub returns : goal.returns
 returns c =

@@ -13,19 +13,19 @@ use Rattle.plan.proofs.Lengths.{at_most, sized_nodes}
 use Rattle.plan.proofs.body_at.Goals as goal
 
 pub returns-then-not-length_ok : goal.returns-then-not-length_ok
-returns-then-not-length_ok c = rw (sym c.length_ok.ensures ∙ not-true _ c.if-not-length_ok.true)
+returns-then-not-length_ok c = rw (sym c.length_ok.ensures ∙ c.if-not-length_ok.true)
 
 pub body_fits-requires : goal.body_fits-requires
 body_fits-requires c = search rules
 -- the length is permitted
 permitted : (c : tie.Else1) → let a = c.args in length_ok a.kind a.most a.n ≡ true
-permitted c = sym c.length_ok.ensures ∙ not-false _ c.if-not-length_ok.false
+permitted c = sym c.length_ok.ensures ∙ c.if-not-length_ok.false
 
 pub returns-then-not-body_fits : goal.returns-then-not-body_fits
-returns-then-not-body_fits c = rw (permitted c.before, sym c.body_fits.ensures ∙ not-true _ c.if-not-body_fits.true)
+returns-then-not-body_fits c = rw (permitted c.before, sym c.body_fits.ensures ∙ c.if-not-body_fits.true)
 -- the body lies inside the file
 inside : (c : tie.Else2) → let a = c.args in a.at + 4 + a.n ≤ length a.file.now
-inside c = leb-true _ _ (sym c.body_fits.ensures ∙ not-false _ c.if-not-body_fits.false)
+inside c = leb-true _ _ (sym c.body_fits.ensures ∙ c.if-not-body_fits.false)
 
 pub overflow_add-start : goal.overflow_add-start
 overflow_add-start c = omega (arith, inside c)
@@ -47,7 +47,7 @@ found c =
     c.fault_of-number.ensures ∙ ap (λ (k : ℕ). fault a.kind a.actions (take k (drop (a.at + 4) a.file.now))) (add-sub_cancel_left (a.at + 4) a.n)
 -- the tests before it
 fitting : (c : tie.Else2) → let a = c.args in body_fits a.file.now a.at a.n ≡ true
-fitting c = sym c.body_fits.ensures ∙ not-false _ c.if-not-body_fits.false
+fitting c = sym c.body_fits.ensures ∙ c.if-not-body_fits.false
 
 pub returns-then-number-eq0 : goal.returns-then-number-eq0
 returns-then-number-eq0 c =

@@ -37,13 +37,13 @@ may_come-requires c = c.requires.0
 pub returns-then-not-may_come : goal.returns-then-not-may_come
 returns-then-not-may_come c =
     let a = c.args in
-    sym (c.loop-i.invariant.2 ∙ replay_step a.types.now a.nodes.now a.entries.now a.taken c.loop-i.table c.loop-i.i (omega arith) ∙ rw (sym c.may_come_lem.ensures ∙ not-true _ c.if-not-may_come.true))
+    sym (c.loop-i.invariant.2 ∙ replay_step a.types.now a.nodes.now a.entries.now a.taken c.loop-i.table c.loop-i.i (omega arith) ∙ rw (sym c.may_come_lem.ensures ∙ c.if-not-may_come.true))
 
 pub wide-n-requires : goal.wide-n-requires
 wide-n-requires c = search rules
 -- an entry that may come is in the table
 came : (c : tie.Else1 invariant-loop-i decreases-loop-i) → let a = c.args in may_come a.types.now a.nodes.now c.loop-i.table (get_or a.entries.now (2 * c.loop-i.i) 0) (get_or a.entries.now (2 * c.loop-i.i + 1) 0) ≡ true
-came c = sym c.may_come_lem.ensures ∙ not-false _ c.if-not-may_come.false
+came c = sym c.may_come_lem.ensures ∙ c.if-not-may_come.false
 small : (c : tie.Else1 invariant-loop-i decreases-loop-i) → get_or c.args.entries.now (2 * c.loop-i.i) 0 < 63
 small c =
     comes_small c.args.types.now c.args.nodes.now c.loop-i.table (get_or c.args.entries.now (2 * c.loop-i.i) 0) (get_or c.args.entries.now (2 * c.loop-i.i + 1) 0) c.requires.0 (came c)

@@ -37,7 +37,7 @@ bounds-b-j-in-loop-j c = omega arith
 pub returns-then-not-apart_ok : goal.returns-then-not-apart_ok
 returns-then-not-apart_ok c =
     let a = c.args in
-    sym (every_fails (test a.b.now a.i a.fi a.si) (pair_count a.b.now) c.loop-j.j (omega arith) (sym c.apart_ok.ensures ∙ not-true _ c.if-not-apart_ok.true))
+    sym (every_fails (test a.b.now a.i a.fi a.si) (pair_count a.b.now) c.loop-j.j (omega arith) (sym c.apart_ok.ensures ∙ c.if-not-apart_ok.true))
 
 pub overflow_add-j-in-loop-j : goal.overflow_add-j-in-loop-j
 overflow_add-j-in-loop-j c = omega arith
@@ -48,7 +48,7 @@ loop-j-smaller c = omega arith
 pub loop-j-preserved : goal.loop-j-preserved
 loop-j-preserved c =
     let a = c.args in
-    (c.loop-j.invariant.0, passed_more (test a.b.now a.i a.fi a.si) (pair_count a.b.now) c.loop-j.j (omega arith) (sym c.apart_ok.ensures ∙ not-false _ c.if-not-apart_ok.false) c.loop-j.invariant.1)
+    (c.loop-j.invariant.0, passed_more (test a.b.now a.i a.fi a.si) (pair_count a.b.now) c.loop-j.j (omega arith) (sym c.apart_ok.ensures ∙ c.if-not-apart_ok.false) c.loop-j.invariant.1)
 
 pub returns : goal.returns
 returns c =

@@ -22,7 +22,7 @@ loop-i-init c =
 pub returns-then-not-pair_ok : goal.returns-then-not-pair_ok
 returns-then-not-pair_ok c =
     let a = c.args in
-    sym (every_fails (test a.b.now a.actions) (pair_count a.b.now) c.loop-i.i (omega arith) (sym c.pair_ok.ensures ∙ not-true _ c.if-not-pair_ok.true))
+    sym (every_fails (test a.b.now a.actions) (pair_count a.b.now) c.loop-i.i (omega arith) (sym c.pair_ok.ensures ∙ c.if-not-pair_ok.true))
 
 pub overflow_add-i : goal.overflow_add-i
 overflow_add-i c = omega arith
@@ -33,7 +33,7 @@ loop-i-smaller c = omega arith
 pub loop-i-preserved : goal.loop-i-preserved
 loop-i-preserved c =
     let a = c.args in
-    (c.loop-i.invariant.0, passed_more (test a.b.now a.actions) (pair_count a.b.now) c.loop-i.i (omega arith) (sym c.pair_ok.ensures ∙ not-false _ c.if-not-pair_ok.false) c.loop-i.invariant.1)
+    (c.loop-i.invariant.0, passed_more (test a.b.now a.actions) (pair_count a.b.now) c.loop-i.i (omega arith) (sym c.pair_ok.ensures ∙ c.if-not-pair_ok.false) c.loop-i.invariant.1)
 
 pub returns : goal.returns
 returns c =

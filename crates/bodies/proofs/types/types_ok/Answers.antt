@@ -26,7 +26,7 @@ bounds-b-i c = omega arith
 pub returns-then-not-is_type : goal.returns-then-not-is_type
 returns-then-not-is_type c =
     let a = c.args in
-    sym (every_fails (test a.b.now) (length a.b.now) c.loop-i.i (omega arith) (sym c.is_type.ensures ∙ not-true _ c.if-not-is_type.true))
+    sym (every_fails (test a.b.now) (length a.b.now) c.loop-i.i (omega arith) (sym c.is_type.ensures ∙ c.if-not-is_type.true))
 
 pub overflow_add-i : goal.overflow_add-i
 overflow_add-i c = omega arith
@@ -37,7 +37,7 @@ loop-i-smaller c = omega arith
 pub loop-i-preserved : goal.loop-i-preserved
 loop-i-preserved c =
     let a = c.args in
-    passed_more (test a.b.now) (length a.b.now) c.loop-i.i (omega arith) (sym c.is_type.ensures ∙ not-false _ c.if-not-is_type.false) c.loop-i.invariant
+    passed_more (test a.b.now) (length a.b.now) c.loop-i.i (omega arith) (sym c.is_type.ensures ∙ c.if-not-is_type.false) c.loop-i.invariant
 
 pub returns : goal.returns
 returns c =

@@ -34,7 +34,7 @@ bounds-w-j c = omega arith
 pub returns-then-not-beside_ok : goal.returns-then-not-beside_ok
 returns-then-not-beside_ok c =
     let a = c.args in
-    sym (every_fails (test a.w.now a.i) (window_count a.w.now) c.loop-j.j (omega arith) (sym c.beside_ok.ensures ∙ not-true _ c.if-not-beside_ok.true))
+    sym (every_fails (test a.w.now a.i) (window_count a.w.now) c.loop-j.j (omega arith) (sym c.beside_ok.ensures ∙ c.if-not-beside_ok.true))
 
 pub overflow_add-j : goal.overflow_add-j
 overflow_add-j c = omega arith
@@ -45,7 +45,7 @@ loop-j-smaller c = omega arith
 pub loop-j-preserved : goal.loop-j-preserved
 loop-j-preserved c =
     let a = c.args in
-    (c.loop-j.invariant.0, passed_more (test a.w.now a.i) (window_count a.w.now) c.loop-j.j (omega arith) (sym c.beside_ok.ensures ∙ not-false _ c.if-not-beside_ok.false) c.loop-j.invariant.1)
+    (c.loop-j.invariant.0, passed_more (test a.w.now a.i) (window_count a.w.now) c.loop-j.j (omega arith) (sym c.beside_ok.ensures ∙ c.if-not-beside_ok.false) c.loop-j.invariant.1)
 
 pub returns : goal.returns
 returns c =

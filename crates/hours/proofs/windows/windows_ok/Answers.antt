@@ -25,7 +25,7 @@ loop-i-init c =
 pub returns-then-not-window_ok : goal.returns-then-not-window_ok
 returns-then-not-window_ok c =
     let a = c.args in
-    rw (eq-eqb _ _ c.if-w-ne0.false) (sym (every_fails (test a.w.now a.actions) (window_count a.w.now) c.loop-i.i (omega arith) (sym c.window_ok.ensures ∙ not-true _ c.if-not-window_ok.true)))
+    rw (eq-eqb _ _ c.if-w-ne0.false) (sym (every_fails (test a.w.now a.actions) (window_count a.w.now) c.loop-i.i (omega arith) (sym c.window_ok.ensures ∙ c.if-not-window_ok.true)))
 
 pub overflow_add-i : goal.overflow_add-i
 overflow_add-i c = omega arith
@@ -36,7 +36,7 @@ loop-i-smaller c = omega arith
 pub loop-i-preserved : goal.loop-i-preserved
 loop-i-preserved c =
     let a = c.args in
-    (c.loop-i.invariant.0, passed_more (test a.w.now a.actions) (window_count a.w.now) c.loop-i.i (omega arith) (sym c.window_ok.ensures ∙ not-false _ c.if-not-window_ok.false) c.loop-i.invariant.1)
+    (c.loop-i.invariant.0, passed_more (test a.w.now a.actions) (window_count a.w.now) c.loop-i.i (omega arith) (sym c.window_ok.ensures ∙ c.if-not-window_ok.false) c.loop-i.invariant.1)
 
 pub returns : goal.returns
 returns c =

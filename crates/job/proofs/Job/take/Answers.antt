@@ -22,19 +22,19 @@ sized c = record {
 }
 
 pub returns-then-not-is_untimed : goal.returns-then-not-is_untimed
-returns-then-not-is_untimed c = (rw (sym c.is_untimed.ensures ∙ not-true _ c.if-not-is_untimed.true) c.refuse.ensures, sized c.before)
+returns-then-not-is_untimed c = (rw (sym c.is_untimed.ensures ∙ c.if-not-is_untimed.true) c.refuse.ensures, sized c.before)
 
 -- the job is untimed
 plain : (c : tie.Else1) → untimed c.args.self ≡ true
-plain c = sym c.is_untimed.ensures ∙ not-false _ c.if-not-is_untimed.false
+plain c = sym c.is_untimed.ensures ∙ c.if-not-is_untimed.false
 
 pub returns-then-not-is_tidy : goal.returns-then-not-is_tidy
 returns-then-not-is_tidy c =
-    (rw (plain c.before, sym c.is_tidy.ensures ∙ not-true _ c.if-not-is_tidy.true) c.refuse-then-not-is_tidy.ensures, sized c.before)
+    (rw (plain c.before, sym c.is_tidy.ensures ∙ c.if-not-is_tidy.true) c.refuse-then-not-is_tidy.ensures, sized c.before)
 
 -- and tidy
 passed : (c : tie.Else2) → tidy c.args.self ≡ true
-passed c = sym c.is_tidy.ensures ∙ not-false _ c.if-not-is_tidy.false
+passed c = sym c.is_tidy.ensures ∙ c.if-not-is_tidy.false
 
 pub slice_bounds-file-end : goal.slice_bounds-file-end
 slice_bounds-file-end c =

@@ -17,11 +17,11 @@ brings : (c : tie.Start) → Brings c.args.e c.args.minute
 brings c = record { brought = record { entry = c.args.e; minute = c.args.minute; fits = omega (arith, c.ranges.minute.fits) }; the_entry = refl; the_minute = refl }
 
 pub returns-then-not-is_tidy : goal.returns-then-not-is_tidy
-returns-then-not-is_tidy c = (rw (sym c.is_tidy.ensures ∙ not-true _ c.if-not-is_tidy.true) c.refuse.ensures, brings c.before)
+returns-then-not-is_tidy c = (rw (sym c.is_tidy.ensures ∙ c.if-not-is_tidy.true) c.refuse.ensures, brings c.before)
 
 -- the job is timed and tidy
 passed : (c : tie.Else1) → timed_tidy c.args.self ≡ true
-passed c = sym c.is_tidy.ensures ∙ not-false _ c.if-not-is_tidy.false
+passed c = sym c.is_tidy.ensures ∙ c.if-not-is_tidy.false
 
 pub slice_bounds-file-end : goal.slice_bounds-file-end
 slice_bounds-file-end c =

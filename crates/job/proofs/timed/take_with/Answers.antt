@@ -15,7 +15,7 @@ use Rattle.job.specs.declared.Taken.{Taken}
 use Rattle.job.proofs.timed.take_with.Goals as goal
 
 pub returns-then-not-kept : goal.returns-then-not-kept
-returns-then-not-kept c = rw (sym c.kept.ensures ∙ not-true _ c.if-not-kept.true) c.refuse.ensures
+returns-then-not-kept c = rw (sym c.kept.ensures ∙ c.if-not-kept.true) c.refuse.ensures
 
 -- what the parts answer is what the whole does
 together : (actions : ℕ) (w nodes : List ℕ) (j : Job) (e : Entry) (m f : ℕ) (x : Job) (t : Taken)
@@ -33,7 +33,7 @@ returns c =
     let a = c.args in
     c.at_minute.ensures
     ∙ together a.actions a.w.now a.nodes.now a.j a.e a.minute _ _ _
-    (sym c.kept.ensures ∙ not-false _ c.if-not-kept.false)
+    (sym c.kept.ensures ∙ c.if-not-kept.false)
     c.fault-fault.ensures
     c.struck_out.ensures
     c.take-taken.ensures.0

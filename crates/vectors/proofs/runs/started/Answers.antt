@@ -7,8 +7,8 @@ use Rattle.vectors.proofs.runs.started.Goals as goal
 
 pub returns-then-not-is_answer : goal.returns-then-not-is_answer
 unfolding started_with
-returns-then-not-is_answer c = rw (sym c.is_answer.ensures ∙ not-true _ c.if-not-is_answer.true) c.held.ensures
+returns-then-not-is_answer c = rw (sym c.is_answer.ensures ∙ c.if-not-is_answer.true) c.held.ensures
 
 pub returns : goal.returns
 unfolding started_with
-returns c = rw (sym c.is_answer.ensures ∙ not-false _ c.if-not-is_answer.false) c.continued.ensures
+returns c = rw (sym c.is_answer.ensures ∙ c.if-not-is_answer.false) c.continued.ensures
