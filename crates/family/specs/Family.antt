@@ -1,7 +1,6 @@
 -- A family of action sets: document 01's "sixteen 64-bit words, one bit for each of 1,024 action sets". What is promised of each
 -- operation on families, in both directions: what is in the result, and that nothing else is.
 use Rattle.std.specs.Prelude.{◌≡◌, Bool, true, ◌⊎◌, List, ℕ, ◌+◌, ◌*◌, ◌/◌, ◌%◌, ◌^◌, ◌<◌, get_or}
-use Rattle.std.specs.Int.Bits.{bit_or}
 
 -- Bit i of a number: 0 or 1.
 abbrev pub bit_at : ℕ → ℕ → ℕ

@@ -1,7 +1,6 @@
 -- `family::is_empty` meets its contract: the words passed are 0; a word that is not 0 has a set.
 use mathlib.Core.Bool.{false≢true}
 use mathlib.Core.Path.{◌≡◌, refl}
-use Prim.Native.Nat.{ℕ, ◌-◌, ◌≤◌, ◌<◌}
 use lib.ListN.{length, get_or}
 use mir.Val.{Fits}
 use mir.Syntax.{w64}
@@ -17,8 +16,8 @@ loop-i-init c = (omega arith, λ k l. absurd (omega arith))
 pub returns-then-f-i-ne0 : goal.returns-then-f-i-ne0
 returns-then-f-i-ne0 c =
     let l = c.loop-i in
-    let fits : Fits w64 (get_or c.args.t1 l.i 0) = search (rules, c.well-formed.0) in
-    record { sound = λ e. absurd (false≢true e); complete = λ none. absurd (c.if-f-i-ne0.true (no_word c.args.t1 l.i fits.fits none)) }
+    let fits : Fits w64 (get_or c.args.f l.i 0) = search rules in
+    record { sound = λ e. absurd (false≢true e); complete = λ none. absurd (c.if-f-i-ne0.true (no_word c.args.f l.i fits.fits none)) }
 
 pub overflow_add-i : goal.overflow_add-i
 overflow_add-i c = omega arith
@@ -27,9 +26,9 @@ pub loop-i-smaller : goal.loop-i-smaller
 loop-i-smaller c = omega arith
 
 pub loop-i-preserved : goal.loop-i-preserved
-loop-i-preserved c = (omega arith, below_more (λ k. get_or c.args.t1 k 0 ≡ 0) _ c.loop-i.invariant.1 (omega arith))
+loop-i-preserved c = (omega arith, below_more (λ k. get_or c.args.f k 0 ≡ 0) _ c.loop-i.invariant.1 (omega arith))
 
 pub returns : goal.returns
 returns c =
-    let sixteen : length c.args.t1 ≡ 16 = omega (arith, c.well-formed.0) in
-    record { sound = λ e. no_sets c.args.t1 sixteen (λ k l. c.loop-i.invariant.1 k (omega arith)); complete = λ none. refl }
+    let sixteen : length c.args.f ≡ 16 = omega arith in
+    record { sound = λ e. no_sets c.args.f sixteen (λ k l. c.loop-i.invariant.1 k (omega arith)); complete = λ none. refl }

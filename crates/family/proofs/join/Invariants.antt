@@ -1,11 +1,8 @@
 -- `family::join` meets its contract: each word passed is the union of the two.
-use mathlib.Core.Path.{◌≡◌, refl}
+use mathlib.Core.Path.{◌≡◌}
 use Prim.Native.Nat.{ℕ, ◌-◌, ◌≤◌, ◌<◌}
 use lib.Bits.{bit_or}
-use lib.ListN.{length, length-set, get_or}
-use Rattle.family.proofs.Words.{filled_more, joined_words}
-use borrow.Author.Rules.{rules}
-use native.Mathlib.Omega.{arith}
+use lib.ListN.{length, get_or}
 use Rattle.family.proofs.join.Given as goal
 
 abbrev pub invariant-loop-i : goal.invariant-loop-i

@@ -9,24 +9,22 @@ six : (a : ℕ) → ¬ (a ≡ 0) → ¬ (a ≡ 1) → ¬ (a ≡ 2) → ¬ (a ≡
 six a d0 d1 d2 d3 d4 d5 = omega arith
 
 pub returns-in-0 : goal.returns-in-0
-returns-in-0 c = rw c.in-0.keys1 (patterned _ 0 tt)
+returns-in-0 c = rw c.in-0.is (patterned _ 0 tt)
 
 pub returns-in-1 : goal.returns-in-1
-returns-in-1 c = rw c.in-1.keys2 (patterned _ 1 tt)
+returns-in-1 c = rw c.in-1.is (patterned _ 1 tt)
 
 pub returns-in-2 : goal.returns-in-2
-returns-in-2 c = rw c.in-2.keys3 (patterned _ 2 tt)
+returns-in-2 c = rw c.in-2.is (patterned _ 2 tt)
 
 pub returns-in-3 : goal.returns-in-3
-returns-in-3 c = rw c.in-3.keys4 (patterned _ 3 tt)
+returns-in-3 c = rw c.in-3.is (patterned _ 3 tt)
 
 pub returns-in-4 : goal.returns-in-4
-returns-in-4 c = rw c.in-4.keys5 (patterned _ 4 tt)
+returns-in-4 c = rw c.in-4.is (patterned _ 4 tt)
 
 pub returns-in-5 : goal.returns-in-5
-returns-in-5 c = rw c.in-5.keys6 (patterned _ 5 tt)
+returns-in-5 c = rw c.in-5.is (patterned _ 5 tt)
 
 pub returns-in_default : goal.returns-in_default
-returns-in_default c =
-    let n = c.in_default.rest in
-    no_pattern _ (six _ n.0.0.0.0.0.1 n.0.0.0.0.1 n.0.0.0.1 n.0.0.1 n.0.1 n.1)
+returns-in_default c = no_pattern _ (omega arith)

@@ -1,7 +1,6 @@
 -- `family::single` meets its contract: the bit of s stored in the empty family.
 use Rattle.family.proofs.Words.{none_empty, single_word}
 use native.Mathlib.Omega.{arith}
-use borrow.Author.Rules.{rules}
 use Rattle.family.proofs.single.Goals as goal
 
 pub returns-then-s-ge1024 : goal.returns-then-s-ge1024
