@@ -1,13 +1,12 @@
 -- `product::doubled` meets its contract: the words passed stand in the upper half too, with action k (`Doubling`).
-use Prim.Native.Nat.{◌-◌}
 use Rattle.family.proofs.Bits.{one_shifted}
-use Rattle.product.proofs.Tables.{Doubling, doubling_none, doubling_more, doubled}
+use Rattle.product.proofs.Tables.{doubling_none, doubling_more, doubled}
 use borrow.Author.Rules.{rules}
 use native.Mathlib.Omega.{arith}
 use Rattle.product.proofs.doubled.Goals as goal
 
 pub loop-j-init : goal.loop-j-init
-loop-j-init c = doubling_none c.args.s c.args.k _ (search rules) (omega (arith, c.well-formed.0)) (one_shifted c.args.k (omega arith))
+loop-j-init c = doubling_none c.args.s c.args.k _ (search rules) (omega arith) (one_shifted c.args.k (omega arith))
 
 pub overflow_add-r : goal.overflow_add-r
 overflow_add-r c = omega arith

@@ -1,9 +1,6 @@
 -- `product::doubled` meets its contract: the words passed stand in the upper half too, with action k (`Doubling`).
 use Prim.Native.Nat.{◌-◌}
-use Rattle.family.proofs.Bits.{one_shifted}
-use Rattle.product.proofs.Tables.{Doubling, doubling_none, doubling_more, doubled}
-use borrow.Author.Rules.{rules}
-use native.Mathlib.Omega.{arith}
+use Rattle.product.proofs.Tables.{Doubling}
 use Rattle.product.proofs.doubled.Given as goal
 
 abbrev pub invariant-loop-j : goal.invariant-loop-j

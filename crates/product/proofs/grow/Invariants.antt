@@ -1,11 +1,6 @@
 -- `product::grow` meets its contract: the words of a passed are done (`Growing`).
-use mathlib.Core.Path.{◌≡◌, subst}
-use mathlib.Core.Logic.{inl, inr}
-use Prim.Native.Nat.{ℕ, ◌-◌, ◌≤◌, ◌<◌}
-use lib.Bits.{bit_or, or_lt}
-use Rattle.product.proofs.Products.{Growing, growing_none, growing_skip, growing_more, grown}
-use borrow.Author.Rules.{rules}
-use native.Mathlib.Omega.{arith}
+use Prim.Native.Nat.{◌-◌, ◌≤◌}
+use Rattle.product.proofs.Products.{Growing}
 use Rattle.product.proofs.grow.Given as goal
 
 abbrev pub invariant-loop-h : goal.invariant-loop-h

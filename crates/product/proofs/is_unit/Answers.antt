@@ -1,5 +1,4 @@
 -- `product::is_unit` meets its contract: word 0 is 1, and the rest has no sets.
-use mathlib.Core.Path.{◌≡◌}
 use mathlib.Core.Bool.{false≢true}
 use lib.ListN.{length, get_or}
 use Prim.Native.Nat.{◌<◌}
@@ -12,13 +11,13 @@ use Rattle.product.proofs.is_unit.Goals as goal
 
 pub returns-then-f-ne1 : goal.returns-then-f-ne1
 returns-then-f-ne1 c =
-    let fits : Fits w64 (get_or c.args.t1 0 0) = search (rules, c.well-formed.0) in
-    record { sound = λ e. absurd (false≢true e); complete = λ unit. absurd (c.if-f-ne1.true (first_word c.args.t1 unit fits.fits)) }
+    let fits : Fits w64 (get_or c.args.f 0 0) = search rules in
+    record { sound = λ e. absurd (false≢true e); complete = λ unit. absurd (c.if-f-ne1.true (first_word c.args.f unit fits.fits)) }
 
 pub returns : goal.returns
 returns c =
-    let l : 0 < length c.args.t1 = omega (arith, c.well-formed.0) in
+    let l : 0 < length c.args.f = omega arith in
     record {
-      sound = λ e. unit_word c.args.t1 l c.if-f-ne1.false (c.is_empty.ensures.sound e);
-      complete = λ unit. c.is_empty.ensures.complete (no_other_word c.args.t1 unit l);
+      sound = λ e. unit_word c.args.f l c.if-f-ne1.false (c.is_empty.ensures.sound e);
+      complete = λ unit. c.is_empty.ensures.complete (no_other_word c.args.f unit l);
     }

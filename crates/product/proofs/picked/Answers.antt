@@ -1,10 +1,8 @@
 -- `product::picked` meets its contract: the words at the bits passed are joined.
 use mathlib.Core.Path.{◌≡◌, subst}
-use mathlib.Core.Logic.{inl, inr}
-use Prim.Native.Nat.{ℕ, ◌-◌, ◌≤◌}
+use Prim.Native.Nat.{ℕ}
 use Rattle.product.specs.Steps.{Picked}
 use Rattle.product.proofs.Tables.{picked_none, picked_more, picked_skip}
-use borrow.Author.Rules.{rules}
 use native.Mathlib.Omega.{arith}
 use Rattle.product.proofs.picked.Goals as goal
 
@@ -23,8 +21,8 @@ loop-x-preserved c =
     let a = c.args in (
       omega arith,
       elim c.if-u-x-eq1.branch [
-        | inl w ↦ rw w.2 (picked_more a.u a.s.now l.x l.r l.invariant.1 (omega arith) w.0.taken)
-        | inr w ↦ rw w.1 (picked_skip a.u a.s.now l.x l.r l.invariant.1 w.0.left)
+        | goal.then-u-x-eq1 w ↦ rw w.r-is (picked_more a.u a.s.now l.x l.r l.invariant.1 (omega arith) w.if-u-x-eq1.true)
+        | goal.else-u-x-eq1 w ↦ rw w.r-is (picked_skip a.u a.s.now l.x l.r l.invariant.1 w.if-u-x-eq1.false)
       ],
     )
 

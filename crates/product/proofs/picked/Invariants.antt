@@ -1,11 +1,6 @@
 -- `product::picked` meets its contract: the words at the bits passed are joined.
-use mathlib.Core.Path.{◌≡◌, subst}
-use mathlib.Core.Logic.{inl, inr}
-use Prim.Native.Nat.{ℕ, ◌-◌, ◌≤◌}
+use Prim.Native.Nat.{◌-◌, ◌≤◌}
 use Rattle.product.specs.Steps.{Picked}
-use Rattle.product.proofs.Tables.{picked_none, picked_more, picked_skip}
-use borrow.Author.Rules.{rules}
-use native.Mathlib.Omega.{arith}
 use Rattle.product.proofs.picked.Given as goal
 
 abbrev pub invariant-loop-x : goal.invariant-loop-x

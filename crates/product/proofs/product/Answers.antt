@@ -1,33 +1,31 @@
 -- `product::product` meets its contract: the words of b passed are done (`Building`); a word that is 0 needs nothing.
 use mathlib.Core.Path.{◌≡◌, subst}
-use mathlib.Core.Logic.{inl, inr}
-use Prim.Native.Nat.{ℕ, ◌-◌, ◌≤◌}
+use Prim.Native.Nat.{ℕ}
 use lib.ListN.{replicate}
 use Rattle.family.proofs.Words.{none_empty}
 use Rattle.product.proofs.Products.{Building, building_none, building_more, building_skip, built, product_none, product_unit_left, product_unit_right}
-use borrow.Author.Rules.{rules}
 use native.Mathlib.Omega.{arith}
 use Rattle.product.proofs.product.Goals as goal
 
 pub returns-then-is_empty : goal.returns-then-is_empty
 returns-then-is_empty c =
     let a = c.args in
-    product_none a.a a.t2 (replicate 16 0) none_empty (c.is_empty.ensures.sound c.if-is_empty.true)
+    product_none a.a a.b (replicate 16 0) none_empty (c.is_empty.ensures.sound c.if-is_empty.true)
 
 pub returns-then-is_unit : goal.returns-then-is_unit
 returns-then-is_unit c =
     let a = c.args in
-    product_unit_left a.a a.t2 (c.is_unit.ensures.sound c.if-is_unit.true)
+    product_unit_left a.a a.b (c.is_unit.ensures.sound c.if-is_unit.true)
 
 pub returns-then-is_unit-2 : goal.returns-then-is_unit-2
 returns-then-is_unit-2 c =
     let a = c.args in
-    product_unit_right a.a a.t2 (c.is_unit-2.ensures.sound c.if-is_unit-2.true)
+    product_unit_right a.a a.b (c.is_unit-2.ensures.sound c.if-is_unit-2.true)
 
 pub loop-i-init : goal.loop-i-init
 loop-i-init c =
     let a = c.args in
-    (omega arith, building_none a.a a.t2 (replicate 16 0) none_empty)
+    (omega arith, building_none a.a a.b (replicate 16 0) none_empty)
 
 pub overflow_add-i : goal.overflow_add-i
 overflow_add-i c = omega arith
@@ -41,8 +39,8 @@ loop-i-preserved c =
     let a = c.args in (
       omega arith,
       elim c.if-b-i-ne0.branch [
-        | inl w ↦ rw w.2 (building_more a.a a.t2 l.i l.r l.invariant.1 w.1.result w.1.ensures)
-        | inr w ↦ rw w.1 (building_skip a.a a.t2 l.i l.r l.invariant.1 w.0.left)
+        | goal.then-b-i-ne0 w ↦ rw w.r-is (building_more a.a a.b l.i l.r l.invariant.1 w.grow-n.result w.grow-n.ensures)
+        | goal.else-b-i-ne0 w ↦ rw w.r-is (building_skip a.a a.b l.i l.r l.invariant.1 w.if-b-i-ne0.false)
       ],
     )
 
@@ -51,4 +49,4 @@ returns c =
     let l = c.loop-i in
     let a = c.args in
     let e : l.i ≡ 16 = omega arith in
-    built a.a a.t2 l.r (omega (arith, c.well-formed.1.0)) (subst (λ (i : ℕ). Building a.a a.t2 i l.r) e l.invariant.1)
+    built a.a a.b l.r (omega arith) (subst (λ (i : ℕ). Building a.a a.b i l.r) e l.invariant.1)
