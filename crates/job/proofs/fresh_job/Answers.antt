@@ -7,4 +7,4 @@ use Rattle.job.proofs.fresh_job.Goals as goal
 
 pub returns : goal.returns
 returns c =
-    rw (c.untimed_job.ensures, c.copy.ensures.1 ∙ padded most_bytes c.args.s.now c.requires)
+    rw (c.untimed_job.ensures, c.copy.ensures.dst_after ∙ padded most_bytes c.args.s.now c.requires)

@@ -11,13 +11,13 @@ returns-then-not-state c =
 
 pub returns-then-not-may_come : goal.returns-then-not-may_come
 returns-then-not-may_come c =
-    rw (← c.state_after-state.ensures, not-false c.state_after-state.result.ok c.if-not-state.false, sym c.may_come_lem.ensures ∙ c.if-not-may_come.true) c.refuse-then-not-may_come.ensures
+    rw (← c.state_after-state.ensures, not-false c.state_after-state.result.ok c.if-not-state.false, sym c.may_come.ensures ∙ c.if-not-may_come.true) c.refuse-then-not-may_come.ensures
 
 pub after_entry-requires : goal.after_entry-requires
 after_entry-requires c =
     let t = c.state_after-state.result.table in
-    (c.requires.0, c.requires.1, comes_small c.args.types.now c.args.nodes.now t c.args.e.leaf c.args.e.outcome c.requires.0 (sym c.may_come_lem.ensures ∙ c.if-not-may_come.false))
+    (c.requires.0, c.requires.1, comes_small c.args.types.now c.args.nodes.now t c.args.e.leaf c.args.e.outcome c.requires.0 (sym c.may_come.ensures ∙ c.if-not-may_come.false))
 
 pub returns : goal.returns
 returns c =
-    rw (← c.state_after-state.ensures, not-false c.state_after-state.result.ok c.if-not-state.false, sym c.may_come_lem.ensures ∙ c.if-not-may_come.false) c.after_entry.ensures
+    rw (← c.state_after-state.ensures, not-false c.state_after-state.result.ok c.if-not-state.false, sym c.may_come.ensures ∙ c.if-not-may_come.false) c.after_entry.ensures

@@ -10,11 +10,8 @@ use borrow.Author.Tests.{not-true, not-false}
 use Rattle.blocks.proofs.Bounded.{every_fails, Passed, passed_none, passed_more, passed_all}
 use mathlib.Core.Bool.{true, cond}
 use lib.Dec.{ltb, eqb}
+use Rattle.job.proofs.zeros_from.Invariants.{test}
 use Rattle.job.proofs.zeros_from.Goals as goal
-
--- what each turn tests
-abbrev test : List ℕ → ℕ → ℕ → Bool
-test s at i = cond (ltb i at) true (eqb (get_or s i 0) 0)
 
 pub loop-i-init : goal.loop-i-init
 loop-i-init c =

@@ -12,6 +12,10 @@ use mathlib.Core.Bool.{true, cond}
 use lib.Dec.{ltb, eqb}
 use Rattle.job.proofs.zeros_from.Given as goal
 
+-- what each turn tests
+abbrev pub test : List ℕ → ℕ → ℕ → Bool
+test s at i = cond (ltb i at) true (eqb (get_or s i 0) 0)
+
 abbrev pub invariant-loop-i : goal.invariant-loop-i
 invariant-loop-i l = Passed (test l.s l.at) (length l.s) l.i
 

@@ -4,12 +4,12 @@ use borrow.Author.Rules.{rules}
 use Rattle.job.proofs.Job.start_timed.Goals as goal
 
 pub start_with-requires : goal.start_with-requires
-start_with-requires c = sym c.read.ensures ∙ c.l-1.given.1
+start_with-requires c = sym c.read.ensures ∙ c.in-Accepted.is
 
 pub returns-in-Refused : goal.returns-in-Refused
 returns-in-Refused c =
-    rw (← c.read.ensures, c.n-1.given.1, ← c.no_job_lem.ensures) c.refuse.ensures
+    rw (← c.read.ensures, c.in-Refused.is, ← c.no_job.ensures) c.refuse.ensures
 
 pub returns-in-Accepted : goal.returns-in-Accepted
 returns-in-Accepted c =
-    rw (← c.read.ensures, c.l-1.given.1) c.start_with.ensures
+    rw (← c.read.ensures, c.in-Accepted.is) c.start_with.ensures

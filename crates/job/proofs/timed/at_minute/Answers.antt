@@ -3,7 +3,7 @@ use borrow.Author.Rules.{rules}
 use Rattle.job.proofs.timed.at_minute.Goals as goal
 
 pub returns-in-Refused : goal.returns-in-Refused
-returns-in-Refused c = rw c.answer-1.given.1 c.refuse.ensures
+returns-in-Refused c = rw c.in-Refused.is c.refuse.ensures
 
 pub returns-in-Told : goal.returns-in-Told
-returns-in-Told c = rw c.answer-in-Told-1.given.1 c.told_at.ensures
+returns-in-Told c = rw c.in-Told.is c.told_at.ensures

@@ -7,4 +7,4 @@ use Rattle.job.proofs.timed.fresh_timed.Goals as goal
 
 pub returns : goal.returns
 returns c =
-    rw (c.timed_job.ensures, c.fresh_job.ensures, c.copy.ensures.1 ∙ padded most_windows c.args.w.now c.requires.1)
+    rw (c.timed_job.ensures, c.fresh_job.ensures, c.copy.ensures.dst_after ∙ padded most_windows c.args.w.now c.requires.1)

@@ -10,7 +10,7 @@ use Rattle.job.proofs.timed.start_with.Goals as goal
 pub returns-then-fault-ne0 : goal.returns-then-fault-ne0
 returns-then-fault-ne0 c =
     let f = c.fault-fault.ensures in
-    rw (ne_eqb _ 0 (λ e. c.if-fault-ne0.true (f ∙ e)), ← f, ← c.no_job_lem.ensures) c.refuse.ensures
+    rw (ne_eqb _ 0 (λ e. c.if-fault-ne0.true (f ∙ e)), ← f, ← c.no_job.ensures) c.refuse.ensures
 
 pub fresh_timed-requires : goal.fresh_timed-requires
 fresh_timed-requires c =

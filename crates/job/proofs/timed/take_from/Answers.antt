@@ -10,12 +10,12 @@ use Rattle.job.proofs.timed.take_from.Goals as goal
 
 pub slice_bounds-windows-end : goal.slice_bounds-windows-end
 slice_bounds-windows-end c =
-    let long : length c.args.j.windows ≡ most_windows = search (rules, c.well-formed.1.1.0.1.1.1.1.1) in
+    let long : length c.args.j.windows ≡ most_windows = search rules in
     omega (arith, c.requires.2)
 
 pub slice_bounds-take_with-end : goal.slice_bounds-take_with-end
 slice_bounds-take_with-end c =
-    let long : length c.args.j.windows ≡ most_windows = search (rules, c.well-formed.1.1.0.1.1.1.1.1) in
+    let long : length c.args.j.windows ≡ most_windows = search rules in
     sym (length-take-le c.args.j.windows_len c.args.j.windows (omega (arith, c.requires.2)))
 
 pub part_of-requires : goal.part_of-requires

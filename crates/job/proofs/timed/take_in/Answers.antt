@@ -5,17 +5,16 @@ use Rattle.plan.specs.Reading.{read_of}
 use Rattle.job.specs.Job.{plan_of}
 use Rattle.job.proofs.timed.take_in.Goals as goal
 
--- the plan file's reading
-reading : (c : tie.After-read) → c.read.result ≡ read_of (plan_of c.args.j)
-reading c = rw (← c.requires.0) c.read.ensures
-
 pub take_from-requires : goal.take_from-requires
 take_from-requires c =
-    (sym c.read.ensures ∙ c.l-1.given.1, c.requires.1, c.requires.2)
+    (sym c.read.ensures ∙ c.in-Accepted.is, c.requires.1, c.requires.2)
 
 pub returns-in-Refused : goal.returns-in-Refused
-returns-in-Refused c = rw (← reading c.before, c.enum_told-1.given.1) c.refuse.ensures
+returns-in-Refused c =
+    let reading : c.read.result ≡ read_of (plan_of c.args.j) = rw (← c.requires.0) c.read.ensures in
+    rw (← reading, c.in-Refused.is) c.refuse.ensures
 
 pub returns-in-Accepted : goal.returns-in-Accepted
 returns-in-Accepted c =
-    rw (← reading c.before, c.l-1.given.1) (rw c.requires.0 at c.take_from.ensures)
+    let reading : c.read.result ≡ read_of (plan_of c.args.j) = rw (← c.requires.0) c.read.ensures in
+    rw (← reading, c.in-Accepted.is) (rw c.requires.0 at c.take_from.ensures)

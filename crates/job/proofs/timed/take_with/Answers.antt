@@ -36,4 +36,4 @@ returns c =
     (sym c.kept.ensures ∙ c.if-not-kept.false)
     c.fault-fault.ensures
     c.struck_out.ensures
-    c.take-taken.ensures.0
+    c.take-taken.ensures.value
