@@ -36,6 +36,7 @@ quiet_none {n} = record { runs = []; by = l_none; short = take_nil n }
 
 quiet_levels : (n : ℕ) {c : Code} → Memᴰ c (quiet_codes n) → Quiet n c
 quiet_levels zero (Memᴰ.head e) = quiet_at e quiet_none
+quiet_levels zero (Memᴰ.tail m) = elim m [ ]
 quiet_levels (suc n) (Memᴰ.head e) = quiet_at e quiet_none
 quiet_levels (suc n) (Memᴰ.tail m) =
     let (d, i, e) = out_map (λ c. ok ∷ c) (quiet_codes n) m in

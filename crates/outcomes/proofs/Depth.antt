@@ -60,6 +60,10 @@ quiet_sequence quiet quiet z = rw z at quiet
 quiet_parallel : {p q r : Run} {s t u : Status} → Quiet p s → Quiet q t → Interleaving p q r → both s t ≡ u → Quiet r u
 quiet_parallel quiet quiet neither z = rw z at quiet
 
+-- it does not fail
+not_quiet : {p r : Run} {s : Status} → Quiet p fail → Quiet r s
+not_quiet q = elim q [ ]
+
 runs_quiet : {P P' : Process} {p : Run} {s : Status} → levels P ≤ 0 → Forward P p s P' → Quiet p s
 runs_quiet h f_done = quiet
 runs_quiet h (f_leaf a) = absurd (omega arith)
@@ -71,7 +75,7 @@ runs_quiet h (f_choice_right d) = runs_quiet (omega arith) d
 runs_quiet h (f_compensation d) = absurd (omega arith)
 runs_quiet h (f_compensation_fails d) = absurd (omega arith)
 runs_quiet h (f_handler d) = runs_quiet (omega arith) d
-runs_quiet h (f_handler_fails d c e z) = elim (runs_quiet (omega arith) d) [ ]
+runs_quiet h (f_handler_fails d c e z) = not_quiet (runs_quiet (omega arith) d)
 
 quiet_run : (P : Process) → levels P ≤ 0 → (P' : Process) × Forward P [] ok P'
 quiet_run done h = (done, f_done)

@@ -20,7 +20,7 @@ in_flat_map k (Memᴰ.tail {x = z} i) m = Memᴰ.append_right (k z) (in_flat_map
 
 out_flat_map : {A B : Type 0} (k : A → List B) (xs : List A) {y : B} → Memᴰ y (flat_map k xs) → (x : A) × Memᴰ x xs × Memᴰ y (k x)
 unfolding flat_map
-out_flat_map k [] m = absurd (Memᴰ.not_nil m)
+out_flat_map k [] m = absurd (Memᴰ.not-nil m)
 out_flat_map {A} {B} k (x ∷ xs) {y} m = go (Memᴰ.append_cases (k x) m) (λ i. out_flat_map k xs i)
   where
     go : Memᴰ y (k x) ⊎ Memᴰ y (flat_map k xs) → (Memᴰ y (flat_map k xs) → (z : A) × Memᴰ z xs × Memᴰ y (k z)) → (z : A) × Memᴰ z (x ∷ xs) × Memᴰ y (k z)
@@ -29,6 +29,8 @@ out_flat_map {A} {B} k (x ∷ xs) {y} m = go (Memᴰ.append_cases (k x) m) (λ i
 
 out_cond : {A : Type 0} (b : Bool) {x y : A} → Memᴰ x (cond b (y ∷ []) []) → T b × (x ≡ y)
 out_cond true (Memᴰ.head e) = (tt, e)
+out_cond true (Memᴰ.tail m) = elim m [ ]
+out_cond false m = elim m [ ]
 
 in_cond : {A : Type 0} (b : Bool) (x : A) → T b → Memᴰ x (cond b (x ∷ []) [])
 in_cond true x t = Memᴰ.head refl
@@ -39,7 +41,7 @@ in_map k (Memᴰ.head e) = Memᴰ.head (ap k e)
 in_map k (Memᴰ.tail i) = Memᴰ.tail (in_map k i)
 
 pub out_map : {A B : Type 0} (k : A → B) (xs : List A) {y : B} → Memᴰ y (map k xs) → (x : A) × Memᴰ x xs × (y ≡ k x)
-out_map k [] m = absurd (Memᴰ.not_nil m)
+out_map k [] m = absurd (Memᴰ.not-nil m)
 out_map k (x ∷ xs) (Memᴰ.head e) = (x, Memᴰ.head refl, e)
 out_map k (x ∷ xs) (Memᴰ.tail m) = let (z, j, e) = out_map k xs m in (z, Memᴰ.tail j, e)
 
@@ -84,6 +86,7 @@ module _ (N : Numbered) (S : Sets) where
 
   out_ending : (b : Bool) {codes : List ℕ} {c : ℕ} {A X : S.Set} → Memᴰ (c, X) (ending N S b codes A) → (b ≡ true) × Memᴰ c codes × (X ≡ A)
   out_ending true {codes} {A = A} m = let (d, i, e) = out_map (λ c. (c, A)) codes m in (refl, rw (sym (ap (λ o. o.0) e)) at i, ap (λ o. o.1) e)
+  out_ending false m = elim m [ ]
 
   pub in_leaf_family : (n : ℕ) (k : Kind) {c : ℕ} {X : S.Set} → LeafSet N S.empty (S.single n) (permits k ok) (permits k fail) c X → InFamilyBy N S (leaf n k) c X
   unfolding outcomes_by

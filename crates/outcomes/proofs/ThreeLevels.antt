@@ -119,6 +119,7 @@ member_final (Memᴰ.head e) = (ok, rw e final_1)
 member_final (Memᴰ.tail (Memᴰ.head e)) = (fail, rw e final_9)
 member_final (Memᴰ.tail (Memᴰ.tail (Memᴰ.head e))) = (fail, rw e final_13)
 member_final (Memᴰ.tail (Memᴰ.tail (Memᴰ.tail (Memᴰ.head e)))) = (fail, rw e final_14)
+member_final (Memᴰ.tail (Memᴰ.tail (Memᴰ.tail (Memᴰ.tail m)))) = elim m [ ]
 
 module _ (S : Sets) where
   pub in_plan_sets : (P : Process) {X : S.Set} (s : Status) → InPlan3 S P s X → Memᴰ X (plan_sets S P)

@@ -51,9 +51,11 @@ data OrderComplete : Run → Status → Type 0 where
 credit_runs : {r : Run} {s : Status} → Complete (node sequence done credit) r s → r ≡ entry 1 ok ∷ []
 credit_runs (c_ok (f_sequence f_done (f_leaf _) e)) = rw (← e)
 credit_runs (c_fail (f_sequence f_done (f_leaf m) e) _ _) = not_both m refl
+credit_runs (c_fail (f_sequence_fails x) _ _) = elim x [ ]
 
 done_runs : {r : Run} {s : Status} → Complete done r s → r ≡ []
 done_runs (c_ok f_done) = refl
+done_runs (c_fail x _ _) = elim x [ ]
 
 order_complete : {r : Run} {s : Status} → Complete simple_order r s → OrderComplete r s
 order_complete (c_ok f) = succeeded (order_forward f)
@@ -154,10 +156,12 @@ compensated (f_compensation_fails (f_leaf m)) = not_both m refl
 nothing_undone : {r : Run} {s : Status} → Complete (node sequence (node parallel done done) done) r s → r ≡ []
 nothing_undone (c_ok (f_sequence (f_parallel f_done f_done neither e) f_done z)) = sym z
 nothing_undone (c_fail (f_sequence_fails (f_parallel f_done f_done i e)) c z) = not_ok (sym e)
+nothing_undone (c_fail (f_sequence _ x _) _ _) = elim x [ ]
 
 undos_run : {k l : Kind} {r : Run} {s : Status} → Complete (node sequence done (node parallel (leaf 1 k) (leaf 3 l))) r s → length r ≡ 2
 undos_run (c_ok (f_sequence f_done b z)) = rw (← z) (two_entries b).0
 undos_run (c_fail (f_sequence f_done b z) c i) = let (h, e) = two_entries b in rw (← i, ← z, nothing_undone (rw e at c), append-nil) h
+undos_run (c_fail (f_sequence_fails x) _ _) = elim x [ ]
 
 undos_both_begin : (k l : Kind) {r : Run} {s : Status} → Complete (undone_beside k l) r s → length r ≡ 5
 undos_both_begin k l (c_ok (f_sequence a (f_leaf m) z)) = not_both m refl
