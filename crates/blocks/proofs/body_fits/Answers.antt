@@ -3,8 +3,7 @@ use mathlib.Core.Path.{sym, ◌∙◌}
 use native.Mathlib.Omega.{arith}
 use Prim.Native.Nat.{◌+◌}
 use lib.ListN.{length}
-use borrow.Author.Tests.{leb-true, leb-false, lt-leb, not-true, not-false}
-use borrow.Author.Rules.{rules}
+use borrow.Author.Tests.{leb-true, leb-false, lt-leb}
 use Rattle.blocks.proofs.body_fits.Goals as goal
 
 pub returns-then-not-within : goal.returns-then-not-within

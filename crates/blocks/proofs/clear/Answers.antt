@@ -1,18 +1,16 @@
 -- `blocks::clear` meets its contract: it writes a list of zeros, so the loop's invariant is that of a copy (`Pasted`).
 use mathlib.Core.Path.{sym, ◌∙◌}
-use Prim.Native.Nat.{◌-◌}
 use native.Mathlib.Omega.{arith}
 use lib.ListN.{replicate, length-replicate, get_or-replicate}
-use borrow.Author.Rules.{rules}
-use borrow.Author.Tests.{leb-true, le-leb, not-true, not-false}
-use Rattle.blocks.proofs.Area.{Pasted, pasted_none, pasted_more, pasted_all, unwritten}
+use borrow.Author.Tests.{leb-true, le-leb}
+use Rattle.blocks.proofs.Area.{pasted_none, pasted_more, pasted_all, unwritten}
 use Rattle.blocks.proofs.clear.Goals as goal
 
 pub returns-then-not-within : goal.returns-then-not-within
 returns-then-not-within c =
     let a = c.args in
     let e = sym c.within.ensures ∙ c.if-not-within.true in
-    (sym e, unwritten a.dst.now a.at (replicate a.n 0) a.n (length-replicate a.n 0) e)
+    record { value = sym e; dst_after = unwritten a.dst.now a.at (replicate a.n 0) a.n (length-replicate a.n 0) e }
 
 pub loop-i-init : goal.loop-i-init
 loop-i-init c =
@@ -41,7 +39,8 @@ shape_of-dst c = c.loop-i.invariant.long
 
 pub returns : goal.returns
 returns c =
-    let a = c.args in (
-      sym (le-leb _ _ c.loop-i.invariant.room),
-      pasted_all a.dst.now a.at (replicate a.n 0) a.n c.loop-i.i c.loop-i.dst (omega arith) c.loop-i.invariant,
-    )
+    let a = c.args in
+    record {
+      value = sym (le-leb _ _ c.loop-i.invariant.room);
+      dst_after = pasted_all a.dst.now a.at (replicate a.n 0) a.n c.loop-i.i c.loop-i.dst (omega arith) c.loop-i.invariant;
+    }

@@ -1,18 +1,16 @@
 -- `blocks::copy` meets its contract. The loop's invariant: the first i bytes of the source stand in the area (`Pasted`).
 use mathlib.Core.Path.{refl, sym, ◌∙◌}
-use Prim.Native.Nat.{◌-◌}
 use native.Mathlib.Omega.{arith}
 use lib.ListN.{length}
-use borrow.Author.Rules.{rules}
-use borrow.Author.Tests.{leb-true, le-leb, not-true, not-false}
-use Rattle.blocks.proofs.Area.{Pasted, pasted_none, pasted_more, pasted_all, unwritten}
+use borrow.Author.Tests.{leb-true, le-leb}
+use Rattle.blocks.proofs.Area.{pasted_none, pasted_more, pasted_all, unwritten}
 use Rattle.blocks.proofs.copy.Goals as goal
 
 pub returns-then-not-within : goal.returns-then-not-within
 returns-then-not-within c =
     let a = c.args in
     let e = sym c.within.ensures ∙ c.if-not-within.true in
-    (sym e, unwritten a.dst.now a.at a.src.now (length a.src.now) refl e)
+    record { value = sym e; dst_after = unwritten a.dst.now a.at a.src.now (length a.src.now) refl e }
 
 pub loop-i-init : goal.loop-i-init
 loop-i-init c =
@@ -44,7 +42,8 @@ shape_of-dst c = c.loop-i.invariant.long
 
 pub returns : goal.returns
 returns c =
-    let a = c.args in (
-      sym (le-leb _ _ c.loop-i.invariant.room),
-      pasted_all a.dst.now a.at a.src.now (length a.src.now) c.loop-i.i c.loop-i.dst (omega arith) c.loop-i.invariant,
-    )
+    let a = c.args in
+    record {
+      value = sym (le-leb _ _ c.loop-i.invariant.room);
+      dst_after = pasted_all a.dst.now a.at a.src.now (length a.src.now) c.loop-i.i c.loop-i.dst (omega arith) c.loop-i.invariant;
+    }
