@@ -1,7 +1,7 @@
 -- The files of an input as they are read are those that it holds, and where none are read it holds no list of at most so many.
-use mathlib.Core.Path.{◌≡◌, refl, sym, ap, subst, ◌∙◌}
+use mathlib.Core.Path.{◌≡◌, refl, sym, ap, subst}
 use mathlib.Core.Bool.{Bool, true, false, cond}
-use mathlib.Core.List.{List, [], ◌∷◌, ◌++◌}
+use mathlib.Core.List.{List, [], ◌∷◌}
 use mathlib.Core.Option.{Option, none, some, some-injective, none-ne-some, some-ne-none}
 use Prim.Native.Nat.{ℕ, zero, suc, ◌+◌, ◌*◌, ◌≤◌, ◌<◌}
 use native.Mathlib.Omega.{arith}
@@ -12,7 +12,7 @@ use borrow.Author.Tests.{ltb-true, ltb-false}
 use Rattle.handed.specs.Files.{Ahead, Holds, file}
 use Rattle.handed.specs.Files as the-files
 use Rattle.handed.specs.Reading.{after_first, before, with_first, ended, files_of}
-use Rattle.handed.proofs.Files.{Headed, headed, says_length, ahead_long, rests_same}
+use Rattle.handed.proofs.Files.{headed, says_length, ahead_long, rests_same}
 
 -- what is read, after its length
 module _ (low high : ℕ) (s : List ℕ) where

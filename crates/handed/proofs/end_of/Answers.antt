@@ -1,8 +1,7 @@
 -- `class::end_of` meets its contract: the two tests are that length and file are there.
-use mathlib.Core.Path.{refl, ap, ◌∙◌}
+use mathlib.Core.Path.{ap}
 use Prim.Native.Nat.{◌+◌}
 use native.Mathlib.Omega.{arith}
-use borrow.Author.Rules.{rules}
 use Rattle.handed.proofs.Files.{cut_length, cut_file, ends_there}
 use Rattle.handed.proofs.end_of.Goals as goal
 
