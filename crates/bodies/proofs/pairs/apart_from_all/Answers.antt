@@ -1,18 +1,10 @@
 -- `bodies::pairs::apart_from_all` meets its contract: pair i may stand beside each pair passed.
-use mathlib.Core.Path.{◌≡◌, refl, sym, ◌∙◌}
-use mathlib.Core.Bool.{Bool}
-use mathlib.Core.List.{List}
-use Prim.Native.Nat.{ℕ, ◌-◌}
+use mathlib.Core.Path.{refl, sym, ◌∙◌}
 use native.Mathlib.Omega.{arith}
-use borrow.Author.Rules.{rules}
-use borrow.Author.Tests.{not-true, not-false}
-use Rattle.blocks.proofs.Bounded.{every_fails, Passed, passed_none, passed_more, passed_all}
-use Rattle.bodies.specs.Pairs.{pair_count, first, second, apart_ok}
+use Rattle.blocks.proofs.Bounded.{every_fails, passed_none, passed_more, passed_all}
+use Rattle.bodies.specs.Pairs.{pair_count}
+use Rattle.bodies.proofs.pairs.apart_from_all.Invariants.{test}
 use Rattle.bodies.proofs.pairs.apart_from_all.Goals as goal
-
--- what each turn tests
-abbrev test : List ℕ → ℕ → ℕ → ℕ → ℕ → Bool
-test b i fi si j = apart_ok i fi si j (first b j) (second b j)
 
 pub loop-j-init : goal.loop-j-init
 loop-j-init c =

@@ -1,5 +1,4 @@
 -- `bodies::pairs::pair_ok` meets its contract: each return by the tests that led there.
-use borrow.Author.Rules.{rules}
 use borrow.Author.Tests.{le-ltb, lt-ltb, le-leb, lt-leb}
 use Rattle.bodies.proofs.pairs.pair_ok.Goals as goal
 

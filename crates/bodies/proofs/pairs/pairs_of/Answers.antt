@@ -1,18 +1,15 @@
 -- `bodies::pairs::pairs_of` meets its contract: the sum over the pairs passed, at most one for each, so that it fits.
 use mathlib.Core.Path.{◌≡◌, refl}
-use mathlib.Core.List.{List}
-use mathlib.Core.Logic.{inl, inr}
-use Prim.Native.Nat.{ℕ, ◌+◌, ◌-◌, ◌≤◌}
+use Prim.Native.Nat.{◌+◌}
 use native.Mathlib.Omega.{arith}
 use borrow.Author.Tests.{eq-eqb, ne_eqb}
 use lib.Dec.{eqb}
-use Rattle.blocks.specs.Bounded.{total, one}
+use Rattle.blocks.specs.Bounded.{total}
 use Rattle.blocks.proofs.Bounded.{total_more, one_most}
 use Rattle.bodies.specs.Pairs.{pair_count, first}
+use Rattle.bodies.proofs.pairs.pairs_of.Invariants.{term}
 use Rattle.bodies.proofs.pairs.pairs_of.Goals as goal
-
-abbrev term : List ℕ → ℕ → ℕ → ℕ
-term b action i = one (eqb (first b i) action)
+use Rattle.bodies.proofs.pairs.pairs_of.Goals.{then-b-i, else-b-i}
 
 pub loop-i-init : goal.loop-i-init
 unfolding total
@@ -38,8 +35,8 @@ loop-i-preserved c =
     let a = c.args in
     let t = term a.b.now a.action in
     let added : c.if-b-i.count ≡ t c.loop-i.i + c.loop-i.count = elim c.if-b-i.branch [
-      | inl (here, e) ↦ rw (eq-eqb _ _ here.taken) (omega (arith, e))
-      | inr (other, e) ↦ rw (ne_eqb _ _ other.left) (omega (arith, e))
+      | then-b-i w ↦ rw (eq-eqb _ _ w.if-b-i.true) (omega (arith, w.count-is))
+      | else-b-i w ↦ rw (ne_eqb _ _ w.if-b-i.false) (omega (arith, w.count-is))
     ] in
     (refl, omega arith, omega (arith, added, one_most (eqb (first a.b.now c.loop-i.i) a.action), c.loop-i.invariant.2), omega (arith, added, total_more t c.loop-i.i, c.loop-i.invariant.3))
 

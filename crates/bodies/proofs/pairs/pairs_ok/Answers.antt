@@ -1,18 +1,10 @@
 -- `bodies::pairs::pairs_ok` meets its contract: each pair passed keeps the pair rule.
-use mathlib.Core.Path.{◌≡◌, refl, sym, ◌∙◌}
-use mathlib.Core.Bool.{Bool}
-use mathlib.Core.List.{List}
-use Prim.Native.Nat.{ℕ, ◌-◌}
+use mathlib.Core.Path.{refl, sym, ◌∙◌}
 use native.Mathlib.Omega.{arith}
-use borrow.Author.Rules.{rules}
-use borrow.Author.Tests.{not-true, not-false}
-use Rattle.blocks.proofs.Bounded.{every_fails, Passed, passed_none, passed_more, passed_all}
-use Rattle.bodies.specs.Pairs.{pair_count, pair_ok}
+use Rattle.blocks.proofs.Bounded.{every_fails, passed_none, passed_more, passed_all}
+use Rattle.bodies.specs.Pairs.{pair_count}
+use Rattle.bodies.proofs.pairs.pairs_ok.Invariants.{test}
 use Rattle.bodies.proofs.pairs.pairs_ok.Goals as goal
-
--- what each turn tests
-abbrev test : List ℕ → ℕ → ℕ → Bool
-test b actions i = pair_ok actions b i
 
 pub loop-i-init : goal.loop-i-init
 loop-i-init c =

@@ -1,5 +1,4 @@
 -- `bodies::rule::operands_of` meets its contract: each return by the tests that led there.
-use borrow.Author.Rules.{rules}
 use borrow.Author.Tests.{eq-eqb, le-ltb, lt-ltb, ne_eqb}
 use Rattle.bodies.proofs.rule.operands_of.Goals as goal
 

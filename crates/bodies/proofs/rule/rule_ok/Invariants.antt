@@ -1,12 +1,8 @@
 -- `bodies::rule::rule_ok` meets its contract: what is left of the rule, from the values so far, is what the whole rule is from none.
-use mathlib.Core.Path.{◌≡◌, refl, sym, ◌∙◌}
+use mathlib.Core.Path.{◌≡◌}
 use Prim.Native.Nat.{◌-◌, ◌≤◌}
-use native.Mathlib.Omega.{arith}
 use lib.ListN.{length, drop}
-use borrow.Author.Rules.{rules}
-use borrow.Author.Tests.{le-leb, lt-leb}
 use Rattle.bodies.specs.Rule.{rule_from}
-use Rattle.bodies.proofs.Scan.{rule_step, rule_end}
 use Rattle.bodies.proofs.rule.rule_ok.Given as goal
 
 abbrev pub invariant-loop-i : goal.invariant-loop-i

@@ -1,19 +1,10 @@
 -- `bodies::types::types_ok` meets its contract: each byte passed is a type.
 use mathlib.Core.Path.{sym, ◌∙◌}
-use mathlib.Core.Bool.{Bool}
-use mathlib.Core.List.{List}
-use Prim.Native.Nat.{ℕ, ◌-◌}
 use native.Mathlib.Omega.{arith}
-use lib.ListN.{length, get_or}
-use borrow.Author.Rules.{rules}
-use borrow.Author.Tests.{not-true, not-false}
-use Rattle.blocks.proofs.Bounded.{every_fails, Passed, passed_none, passed_more, passed_all}
-use Rattle.bodies.specs.Types.{is_type}
+use lib.ListN.{length}
+use Rattle.blocks.proofs.Bounded.{every_fails, passed_none, passed_more, passed_all}
+use Rattle.bodies.proofs.types.types_ok.Invariants.{test}
 use Rattle.bodies.proofs.types.types_ok.Goals as goal
-
--- what each turn tests
-abbrev test : List ℕ → ℕ → Bool
-test b i = is_type (get_or b i 0)
 
 pub loop-i-init : goal.loop-i-init
 loop-i-init c =
