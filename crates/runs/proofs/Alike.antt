@@ -47,6 +47,7 @@ alike_forward (sides in_sequence a b) (f_sequence f g e) = let (N, x, i) = alike
 alike_forward (sides in_sequence a b) (f_sequence_fails f) = let (N, x, i) = alike_forward a f in (_, f_sequence_fails x, i)
 alike_forward (sides in_parallel a b) (f_parallel f g m e) = let (N, x, i) = alike_forward a f in let (M, y, j) = alike_forward b g in (_, f_parallel x y m e, sides in_parallel i j)
 alike_forward (drop_left in_sequence) (f_sequence f_done g e) = rw (← e) (_, g, drop_right in_sequence)
+alike_forward (drop_left in_sequence) (f_sequence_fails f) = elim f [ ]
 alike_forward (drop_left in_parallel) (f_parallel f_done g m e) = rw (← e, nil_interleave_is m) (_, g, drop_left in_parallel)
 alike_forward (drop_right in_sequence) (f_sequence f f_done e) = rw (← e, append-nil) (_, f, drop_left in_sequence)
 alike_forward (drop_right in_sequence) (f_sequence_fails f) = (_, f, alike)
