@@ -57,3 +57,4 @@ none_unsettled s code u t on = go (among_member code (5 ∷ 8 ∷ 12 ∷ []) (rw
     go (Memᴰ.head e) = none_empty t (rw e at on)
     go (Memᴰ.tail (Memᴰ.head e)) = none_empty t (rw e at on)
     go (Memᴰ.tail (Memᴰ.tail (Memᴰ.head e))) = none_empty t (rw e at on)
+    go (Memᴰ.tail (Memᴰ.tail (Memᴰ.tail m))) = elim m [ ]

@@ -52,9 +52,9 @@ module _ (form : ℕ) (h : 3 ≤ form) (l : form ≤ 7) where
 
   cell_zero : (left right : ℕ) → left < 15 → right < 15 → cell3 form left right ≡ 0 → left + right ≡ 0
   cell_zero left right a b e =
-      let at-form : T (below 15 (λ l. below 15 (λ r. cell_test form l r))) =
+      let at_form : T (below 15 (λ l. below 15 (λ r. cell_test form l r))) =
       subst (λ (n : ℕ). T (below 15 (λ l. below 15 (λ r. cell_test n l r)))) place (at_number 5 (λ n. below 15 (λ l. below 15 (λ r. cell_test (n + 3) l r))) cells_tested (form - 3) (omega arith)) in
-      let at_cell : T (cell_test form left right) = at_number 15 (λ r. cell_test form left r) (at_number 15 (λ l. below 15 (λ r. cell_test form l r)) at-form left a) right b in
+      let at_cell : T (cell_test form left right) = at_number 15 (λ r. cell_test form left r) (at_number 15 (λ l. below 15 (λ r. cell_test form l r)) at_form left a) right b in
       eqb→eq _ _ (rw (eq-eqb (cell3 form left right) 0 e) at at_cell)
 
 -- a leaf

@@ -39,8 +39,10 @@ module _ (set : ℕ) (finishes fails : Bool) (done undone none : List ℕ) (p : 
   complete l (finished m (Memᴰ.head c) z) = rw (c, z) (p.complete m (rw z at l))
   complete l (finished m (Memᴰ.tail (Memᴰ.head c)) z) = rw (c, z) (p.complete m (rw z at l))
   complete l (finished m (Memᴰ.tail (Memᴰ.tail (Memᴰ.head c))) z) = rw (c, z) (p.complete m (rw z at l))
+  complete l (finished m (Memᴰ.tail (Memᴰ.tail (Memᴰ.tail c))) z) = elim c [ ]
   complete l (failed m (Memᴰ.head c) z) = rw (c, z) (q.complete m (rw z at l))
   complete l (failed m (Memᴰ.tail (Memᴰ.head c)) z) = rw (c, z) (q.complete m (rw z at l))
+  complete l (failed m (Memᴰ.tail (Memᴰ.tail c)) z) = elim c [ ]
 
   pub leaf_summary : LeafSummary set finishes fails leaf_of
   leaf_summary = record { sound = sound; complete = λ code t. complete }

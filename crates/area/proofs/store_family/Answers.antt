@@ -7,7 +7,7 @@ use native.Mathlib.Omega.{arith}
 use Rattle.area.proofs.store_family.Goals as goal
 
 pub loop-i-init : goal.loop-i-init
-loop-i-init c = let a = c.args in (omega arith, writing_none a.area.now a.at a.t3)
+loop-i-init c = let a = c.args in (omega arith, writing_none a.area.now a.at a.f)
 
 pub overflow_add-at : goal.overflow_add-at
 overflow_add-at c = omega arith
@@ -26,11 +26,11 @@ loop-i-preserved c =
     let w = c.store_word in
     let l = c.loop-i in
     let a = c.args in
-    (omega arith, writing_more a.area.now a.at a.t3 l.i l.area _ (omega arith) l.invariant.1 w.ensures)
+    (omega arith, writing_more a.area.now a.at a.f l.i l.area _ (omega arith) l.invariant.1 w.ensures)
 
 pub returns : goal.returns
 returns c =
     let l = c.loop-i in
     let a = c.args in
     let e : l.i ≡ 16 = omega arith in
-    written a.area.now a.at a.t3 l.area (omega (arith, c.well-formed.1.1.0)) (subst (λ (i : ℕ). Writing a.area.now a.at a.t3 i l.area) e l.invariant.1)
+    written a.area.now a.at a.f l.area (omega arith) (subst (λ (i : ℕ). Writing a.area.now a.at a.f i l.area) e l.invariant.1)

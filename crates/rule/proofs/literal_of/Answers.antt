@@ -10,7 +10,7 @@ use Rattle.rule.proofs.Gathered.{having_told}
 use Rattle.rule.proofs.literal_of.Goals as goal
 
 pub returns : goal.returns
-returns c =
+returns c = λ pairs m.
     let a = c.args in
     let same = c.wide-at.ensures in
     literal_told pairs a.masks.now m a.w a.action (search rules) (search rules) c.having-finished.result c.meeting-undone.result (search rules) (search rules) (search rules)

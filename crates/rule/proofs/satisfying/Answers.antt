@@ -25,6 +25,6 @@ loop-i-preserved c =
     (omega arith, c.stepped-top.ensures.inside, λ pairs m. scanned_more a.rule.now pairs a.w (c.loop-i.invariant.2 pairs m) (omega arith) m c.stepped-top.ensures)
 
 pub returns : goal.returns
-returns c =
+returns c = λ pairs m.
     let a = c.args in
     scanned_all a.rule.now pairs a.w (c.loop-i.invariant.2 pairs m) c.loop-i.invariant.1 (omega arith)

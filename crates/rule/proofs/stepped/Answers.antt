@@ -11,7 +11,7 @@ returns-in-128 c =
     let inside = c.requires in
     record {
       inside = inside;
-      steps = λ pairs stacks m h. rw (c.put.ensures.0, c.put.ensures.1, c.in-128.keys1) (holds_replaced inside h (tells_swapped (holds_last inside h)));
+      steps = λ pairs stacks m h. rw (c.put.ensures.0, c.put.ensures.1, c.in-128.is) (holds_replaced inside h (tells_swapped (holds_last inside h)));
     }
 
 pub returns-in-129 : goal.returns-in-129
@@ -19,7 +19,7 @@ returns-in-129 c =
     let inside = c.requires in
     record {
       inside = omega arith;
-      steps = λ pairs stacks m h. rw (c.put-in-129-2.ensures.0, c.put-in-129-2.ensures.1, c.put-in-129.ensures.0, c.put-in-129.ensures.1, c.in-129.keys2)
+      steps = λ pairs stacks m h. rw (c.put-in-129-2.ensures.0, c.put-in-129-2.ensures.1, c.put-in-129.ensures.0, c.put-in-129.ensures.1, c.in-129.is)
           (holds_replaced (omega arith) (holds_dropped inside h) (tells_both (holds_second inside h) (holds_last inside h)));
     }
 
@@ -28,15 +28,14 @@ returns-in-130 c =
     let inside = c.requires in
     record {
       inside = omega arith;
-      steps = λ pairs stacks m h. rw (c.put-in-130-2.ensures.0, c.put-in-130-2.ensures.1, c.put-in-130.ensures.0, c.put-in-130.ensures.1, c.in-130.keys3)
+      steps = λ pairs stacks m h. rw (c.put-in-130-2.ensures.0, c.put-in-130-2.ensures.1, c.put-in-130.ensures.0, c.put-in-130.ensures.1, c.in-130.is)
           (holds_replaced (omega arith) (holds_dropped inside h) (tells_either (holds_second inside h) (holds_last inside h)));
     }
 
 pub returns-in_default : goal.returns-in_default
 returns-in_default c =
-    let n = c.in_default.rest in
     record {
       inside = omega arith;
-      steps = λ pairs stacks m h. rw (c.put-in_default.ensures.0, c.put-in_default.ensures.1, ne_eqb _ _ n.0.0.1, ne_eqb _ _ n.0.1, ne_eqb _ _ n.1)
+      steps = λ pairs stacks m h. rw (c.put-in_default.ensures.0, c.put-in_default.ensures.1, ne_eqb c.args.t 0x80 (omega arith), ne_eqb c.args.t 0x81 (omega arith), ne_eqb c.args.t 0x82 (omega arith))
           (holds_pushed c.requires h (c.literal_of-v.ensures pairs m));
     }

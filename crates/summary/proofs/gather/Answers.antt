@@ -29,8 +29,8 @@ loop-right-preserved c =
       omega arith,
       l.invariant.1,
       elim c.if-row-right.branch [
-        | inl w ↦ rw w.3 (gathering_more row a.code a.b l.right l.g l.invariant.2 w.2.result (digit_cell a.row l.right a.code (omega arith) (omega (arith, w.0.taken))) (rw w.1.ensures at w.2.ensures))
-        | inr w ↦ rw w.1 (gathering_skip row a.code a.b l.right l.g l.invariant.2 (λ q. w.0.left (omega (arith, cell_digit a.row l.right a.code q (omega arith)))))
+        | goal.then-row-right w ↦ rw w.g-is (gathering_more row a.code a.b l.right l.g l.invariant.2 w.join-j.result (digit_cell a.row l.right a.code (omega arith) (omega (arith, w.if-row-right.true))) (rw w.family_of-f.ensures at w.join-j.ensures))
+        | goal.else-row-right w ↦ rw w.g-is (gathering_skip row a.code a.b l.right l.g l.invariant.2 (λ q. w.if-row-right.false (omega (arith, cell_digit a.row l.right a.code q (omega arith)))))
       ],
     )
 

@@ -8,7 +8,7 @@ use native.Mathlib.Omega.{arith}
 use Rattle.summary.proofs.mark.Goals as goal
 
 pub loop-rest-init : goal.loop-rest-init
-loop-rest-init c = marking_none _ _ _ _ (omega (arith, c.well-formed.0))
+loop-rest-init c = marking_none _ _ _ _ (omega arith)
 
 pub loop-rest-smaller : goal.loop-rest-smaller
 loop-rest-smaller c = omega arith
@@ -18,8 +18,8 @@ loop-rest-preserved c =
     let l = c.loop-rest in
     let a = c.args in
     elim c.if-on-eq1.branch [
-      | inl w ↦ rw w.1 (marking_more a.marks a.row a.rights a.left l.m l.rest l.on l.invariant (omega arith) (l.rest % 16) refl)
-      | inr w ↦ rw w.1 (marking_skip a.marks a.row a.rights a.left l.m l.rest l.on l.invariant w.0.left)
+      | goal.then-on-eq1 w ↦ rw w.m-is (marking_more a.marks a.row a.rights a.left l.m l.rest l.on l.invariant (omega arith) (l.rest % 16) refl)
+      | goal.else-on-eq1 w ↦ rw w.m-is (marking_skip a.marks a.row a.rights a.left l.m l.rest l.on l.invariant w.if-on-eq1.false)
     ]
 
 pub returns : goal.returns

@@ -31,11 +31,11 @@ loop-left-preserved c =
     let cells = cell_in3 a.table.now a.form in (
       omega arith,
       λ among. elim c.if-lefts-left-eq1.branch [
-        | inl w ↦
-            let row = gathered_by_row a.table.now a.form l.left w.2.result a.code a.b w.3.result w.2.ensures w.3.ensures in
-            let added = left_added cells a.code a.a a.b l.left l.u w.3.result w.4.result w.5.result row (rw w.1.ensures at w.4.ensures) w.5.ensures in
-            rw w.6 (joining_more cells a.code a.a a.b l.left l.u w.5.result (l.invariant.1 among) added)
-        | inr w ↦ rw w.1 (joining_more cells a.code a.a a.b l.left l.u l.u (l.invariant.1 among) (left_passed cells a.code a.a a.b l.left l.u a.lefts among w.0.left))
+        | goal.then-lefts-left-eq1 w ↦
+            let row = gathered_by_row a.table.now a.form l.left w.row_in-row.result a.code a.b w.gather-y.result w.row_in-row.ensures w.gather-y.ensures in
+            let added = left_added cells a.code a.a a.b l.left l.u w.gather-y.result w.product-p.result w.join-n.result row (rw w.family_of-x.ensures at w.product-p.ensures) w.join-n.ensures in
+            rw w.u-is (joining_more cells a.code a.a a.b l.left l.u w.join-n.result (l.invariant.1 among) added)
+        | goal.else-lefts-left-eq1 w ↦ rw w.u-is (joining_more cells a.code a.a a.b l.left l.u l.u (l.invariant.1 among) (left_passed cells a.code a.a a.b l.left l.u a.lefts among w.if-lefts-left-eq1.false))
       ],
     )
 

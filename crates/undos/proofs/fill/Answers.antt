@@ -39,7 +39,7 @@ loop-i-smaller c = omega arith
 pub loop-i-preserved : goal.loop-i-preserved
 loop-i-preserved c =
     let pairs = c.args.pairs.now in
-    let byte : get_or pairs (2 * c.loop-i.i) 0 < 256 = omega (arith, c.shared_slice_known-1.given (2 * c.loop-i.i)) in
+    let byte : get_or pairs (2 * c.loop-i.i) 0 < 256 = search rules in
     rw c.add_undo.ensures
     (refl, omega arith, simp length-set c.loop-i.invariant.2, masks_more pairs c.loop-i.masks c.loop-i.i (omega arith) c.loop-i.invariant.3)
 
