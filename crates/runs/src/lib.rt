@@ -2,7 +2,6 @@
 // definitions and the theorems in specs/ and proofs/ speak of them, and the functions over them are in the crate `cells`.
 #![tactic(auto)]
 
-
 // How a process has ended so far. Of a leaf: Open where it has not run.
 #[derive(Clone, Copy)]
 pub enum Ended {

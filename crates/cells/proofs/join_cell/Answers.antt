@@ -1,5 +1,4 @@
 -- `cells::join_cell` meets its contract: where neither is empty, by what `node_cell` ensures.
-use borrow.Author.Rules.{rules}
 use Rattle.cells.proofs.join_cell.Goals as goal
 
 pub returns-else-y : goal.returns-else-y

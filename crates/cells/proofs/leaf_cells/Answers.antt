@@ -1,5 +1,4 @@
 -- `cells::leaf_cells` meets its contract: by the test of the number.
-use borrow.Author.Rules.{rules}
 use borrow.Author.Tests.{lt-ltb, le-ltb}
 use Rattle.cells.proofs.leaf_cells.Goals as goal
 

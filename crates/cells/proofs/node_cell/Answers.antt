@@ -1,5 +1,4 @@
 -- `cells::node_cell` meets its contract: each field is what a callee ensures.
-use borrow.Author.Rules.{rules}
 use Rattle.cells.proofs.node_cell.Goals as goal
 
 pub returns : goal.returns

@@ -1,5 +1,4 @@
 -- `cells::node_cells` meets its contract: each level is what a callee ensures, at the form of the number.
-use borrow.Author.Rules.{rules}
 use Rattle.cells.proofs.node_cells.Goals as goal
 
 pub returns : goal.returns

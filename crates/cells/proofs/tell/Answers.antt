@@ -1,5 +1,4 @@
 -- `cells::tell` meets its contract: each field is what the callees ensure.
-use borrow.Author.Rules.{rules}
 use Rattle.cells.proofs.tell.Goals as goal
 
 pub returns : goal.returns

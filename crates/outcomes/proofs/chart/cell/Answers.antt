@@ -1,6 +1,5 @@
 -- `outcomes::chart::cell` meets its contract: what the chart gives is the cell.
 use Rattle.outcomes.proofs.Table.{cell_in_chart}
-use borrow.Author.Rules.{rules}
 use Rattle.outcomes.proofs.chart.cell.Goals as goal
 
 pub returns : goal.returns

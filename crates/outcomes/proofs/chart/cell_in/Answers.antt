@@ -1,5 +1,4 @@
 -- `outcomes::chart::cell_in` meets its contract, by the tests that led to each answer.
-use borrow.Author.Rules.{rules}
 use borrow.Author.Tests.{lt-ltb, le-ltb}
 use Rattle.outcomes.specs.Table.{cell_in}
 use Rattle.outcomes.proofs.chart.cell_in.Goals as goal

@@ -1,5 +1,4 @@
 -- `outcomes::rows::row_in` meets its contract, by the tests that led to each answer.
-use borrow.Author.Rules.{rules}
 use borrow.Author.Tests.{lt-ltb, le-ltb}
 use Rattle.outcomes.specs.Rows.{row_in}
 use Rattle.outcomes.proofs.rows.row_in.Goals as goal
