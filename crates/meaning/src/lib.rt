@@ -2,7 +2,6 @@
 // definitions and their laws are in specs/ and proofs/, and the function that computes them is in the crate `rule`.
 #![tactic(auto)]
 
-
 // The two values of a part of the rule.
 #[derive(Drop)]
 pub struct Value {

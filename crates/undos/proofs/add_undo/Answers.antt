@@ -1,5 +1,4 @@
 -- `undos::add_undo` meets its contract: the mask of the action gets the bit.
-use borrow.Author.Rules.{rules}
 use Rattle.undos.proofs.add_undo.Goals as goal
 
 pub returns : goal.returns

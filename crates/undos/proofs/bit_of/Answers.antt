@@ -1,5 +1,4 @@
 -- `undos::bit_of` meets its contract: each return by the test that led there.
-use borrow.Author.Rules.{rules}
 use borrow.Author.Tests.{lt-ltb, le-ltb}
 use Rattle.family.proofs.Bits.{one_shifted}
 use Rattle.undos.proofs.bit_of.Goals as goal

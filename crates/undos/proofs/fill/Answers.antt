@@ -1,7 +1,8 @@
 -- `undos::fill` meets its contract: each mask has the undos of the pairs passed.
 use mathlib.Core.Path.{◌≡◌, refl}
-use Prim.Native.Nat.{ℕ, ◌-◌, ◌*◌, ◌≤◌, ◌<◌}
-use lib.ListN.{length, length-set, get_or, get_or-replicate}
+use Prim.Native.Nat.{ℕ, ◌*◌, ◌<◌}
+use lib.ListN.{length-set, get_or, get_or-replicate}
+use borrow.Author.Rules.{rules}
 use native.Mathlib.Omega.{arith}
 use Rattle.bodies.specs.Pairs.{pair_count}
 use Rattle.undos.specs.Masks.{undos_in}

@@ -1,11 +1,9 @@
 -- `undos::fill` meets its contract: each mask has the undos of the pairs passed.
-use mathlib.Core.Path.{◌≡◌, refl}
-use Prim.Native.Nat.{ℕ, ◌-◌, ◌*◌, ◌≤◌, ◌<◌}
-use lib.ListN.{length, length-set, get_or, get_or-replicate}
-use native.Mathlib.Omega.{arith}
+use mathlib.Core.Path.{◌≡◌}
+use Prim.Native.Nat.{ℕ, ◌-◌, ◌≤◌, ◌<◌}
+use lib.ListN.{length, get_or}
 use Rattle.bodies.specs.Pairs.{pair_count}
 use Rattle.undos.specs.Masks.{undos_in}
-use Rattle.undos.proofs.More.{masks_more}
 use Rattle.undos.proofs.fill.Given as goal
 
 abbrev pub invariant-loop-i : goal.invariant-loop-i
