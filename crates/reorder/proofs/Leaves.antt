@@ -39,7 +39,7 @@ both_ways f g (inr b) = inr (g b)
 
 mutual
   pub run_leaf : {P U : Process} {p : Run} {s : Status} {e : Entry} → Forward P p s U → Occurs e p → HasLeaf (leaf_of e) P
-  run_leaf f_done m = absurd (Memᴰ.not_nil m)
+  run_leaf f_done m = absurd (Memᴰ.not-nil m)
   run_leaf (f_leaf a) m = ap leaf_of (Memᴰ.eq_of_singleton m)
   run_leaf (f_sequence {p = p} {q = q} a b i) m = both_ways (λ x. run_leaf a x) (λ x. run_leaf b x) (occurs_in (joined p q i) m)
   run_leaf (f_sequence_fails a) m = inl (run_leaf a m)
@@ -121,4 +121,4 @@ pub runs_something : {P U : Process} {p : Run} {s : Status} → AsWritten P → 
 runs_something w a h = not_none (some_entry w a).1 h
   where
     not_none : {e : Entry} {p : Run} → Occurs e p → ¬ (p ≡ [])
-    not_none m h = Memᴰ.not_nil (rw h at m)
+    not_none m h = Memᴰ.not-nil (rw h at m)

@@ -24,17 +24,20 @@ below f g (inl a) = inl (f a)
 below f g (inr b) = inr (g b)
 
 pub occurs_in : {e : Entry} {p q r : Run} → Interleaving p q r → Occurs e r → Occurs e p ⊎ Occurs e q
+occurs_in neither m = elim m [ ]
 occurs_in (from_left i) (Memᴰ.head h) = inl (Memᴰ.head h)
 occurs_in (from_left i) (Memᴰ.tail m) = below (λ a. Memᴰ.tail a) (λ b. b) (occurs_in i m)
 occurs_in (from_right i) (Memᴰ.head h) = inr (Memᴰ.head h)
 occurs_in (from_right i) (Memᴰ.tail m) = below (λ a. a) (λ b. Memᴰ.tail b) (occurs_in i m)
 
 pub occurs_left : {e : Entry} {p q r : Run} → Interleaving p q r → Occurs e p → Occurs e r
+occurs_left neither m = elim m [ ]
 occurs_left (from_left i) (Memᴰ.head h) = Memᴰ.head h
 occurs_left (from_left i) (Memᴰ.tail m) = Memᴰ.tail (occurs_left i m)
 occurs_left (from_right i) m = Memᴰ.tail (occurs_left i m)
 
 pub occurs_right : {e : Entry} {p q r : Run} → Interleaving p q r → Occurs e q → Occurs e r
+occurs_right neither m = elim m [ ]
 occurs_right (from_right i) (Memᴰ.head h) = Memᴰ.head h
 occurs_right (from_right i) (Memᴰ.tail m) = Memᴰ.tail (occurs_right i m)
 occurs_right (from_left i) m = Memᴰ.tail (occurs_right i m)
@@ -91,6 +94,7 @@ same_interleaved i j a b = Permᴰ.trans (interleaved_same i) (Permᴰ.trans (sa
 
 -- and what they have in common: the same occur in both, and a sum over them is the same where the order of its parts does not matter
 pub same_occurs : {e : Entry} {q r : Run} → SameEntries q r → Occurs e q → Occurs e r
+same_occurs Permᴰ.nil m = elim m [ ]
 same_occurs (Permᴰ.cons h a) (Memᴰ.head i) = Memᴰ.head (i ∙ h)
 same_occurs (Permᴰ.cons h a) (Memᴰ.tail m) = Memᴰ.tail (same_occurs a m)
 same_occurs (Permᴰ.swap h k) (Memᴰ.head i) = Memᴰ.tail (Memᴰ.head (i ∙ h))
