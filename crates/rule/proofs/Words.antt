@@ -3,14 +3,13 @@
 use mathlib.Core.Path.{◌≡◌, refl, ap, ap₂, ◌∙◌}
 use mathlib.Core.Bool.{Bool, true, false, not, ◌&&◌, ◌||◌}
 use mathlib.Core.List.{List}
-use Prim.Native.Nat.{ℕ, zero, suc, ◌+◌, ◌-◌, ◌*◌, ◌/◌, ◌%◌, ◌^◌, ◌<◌, max, min}
+use Prim.Native.Nat.{ℕ, zero, suc, ◌+◌, ◌-◌, ◌*◌, ◌^◌, ◌<◌, max, min}
 use native.Mathlib.Omega.{arith}
 use lib.Bits.{bit_or, bit_and, or_lt}
-use lib.Dec.{leb, eqb}
+use lib.Dec.{leb}
 use lib.ListN.{get_or}
 use borrow.Author.Tests.{ne_eqb, le-leb}
 use Rattle.blocks.specs.Bounded.{one}
-use Rattle.family.specs.Family.{bit_at}
 use Rattle.family.proofs.Bits.{bit_or_lem, bit_and_lem, bit_not}
 use Rattle.meaning.specs.declared.Value.{Value}
 use Rattle.meaning.specs.Literal.{finished, undos_finished, literal_of, literal}

@@ -1,11 +1,6 @@
 -- `rule::satisfying` meets its contract: the places hold stacks from which the bytes that are left give what the whole rule gives.
-use mathlib.Core.List.{List}
-use Prim.Native.Nat.{ℕ, ◌-◌, ◌≤◌, ◌<◌}
-use lib.ListN.{length}
-use borrow.Author.Rules.{rules}
 use native.Mathlib.Omega.{arith}
-use Rattle.undos.specs.Masks.{Masks}
-use Rattle.rule.proofs.Scan.{Scanned, scanned_none, scanned_more, scanned_all}
+use Rattle.rule.proofs.Scan.{scanned_none, scanned_more, scanned_all}
 use Rattle.rule.proofs.satisfying.Goals as goal
 
 pub loop-i-init : goal.loop-i-init

@@ -2,10 +2,8 @@
 use mathlib.Core.List.{List}
 use Prim.Native.Nat.{ℕ, ◌-◌, ◌≤◌, ◌<◌}
 use lib.ListN.{length}
-use borrow.Author.Rules.{rules}
-use native.Mathlib.Omega.{arith}
 use Rattle.undos.specs.Masks.{Masks}
-use Rattle.rule.proofs.Scan.{Scanned, scanned_none, scanned_more, scanned_all}
+use Rattle.rule.proofs.Scan.{Scanned}
 use Rattle.rule.proofs.satisfying.Given as goal
 
 abbrev pub invariant-loop-i : goal.invariant-loop-i

@@ -1,6 +1,5 @@
 -- `rule::stepped` meets its contract: each return by the byte that led there, and by what the stores do to the places.
 use native.Mathlib.Omega.{arith}
-use borrow.Author.Rules.{rules}
 use borrow.Author.Tests.{ne_eqb}
 use Rattle.rule.proofs.Words.{tells_swapped, tells_both, tells_either}
 use Rattle.rule.proofs.Places.{holds_last, holds_second, holds_replaced, holds_pushed, holds_dropped}

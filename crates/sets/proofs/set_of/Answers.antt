@@ -9,7 +9,7 @@ use Rattle.nodes.specs.Nodes.{left}
 use Rattle.sets.proofs.set_of.Goals as goal
 
 -- the action's number is below ten
-few : (c : tie.Then1) → c.node_at-x.result.left < 10
+few : (c : goal.overflow_shl-result) → c.node_at-x.result.left < 10
 few c =
     let e = c.node_at-x.ensures in
     rw e (c.requires.1 (rw e at c.if-f-eq0.true))
