@@ -6,7 +6,6 @@ ghost use Rattle.text.specs.Lines.{each};
 ghost use Rattle.text.specs.Text.{appended, text_of};
 ghost use Rattle.chart.specs.Lines.{cell_text, table_text, chart_lines};
 
-use libc::STDOUT_FILENO;
 use text::Text;
 
 // The cell at a place of the form's table.
@@ -51,8 +50,8 @@ fn lines() -> Text
     put_table(t6, b"\nhandler", 7)
 }
 
-fn main() {
-    if !output::write(STDOUT_FILENO, lines()) {
-        os::fail(b"standard output");
+fn main(rt: HostRuntime) {
+    if let Err(why) = output::write(&rt, lines()) {
+        output::fail(&rt.stderr(), b"standard output", why);
     }
 }

@@ -6,7 +6,6 @@
 
 ghost use Rattle.std.specs.Prelude.{◌≡◌, length, replicate};
 
-use libc::STDOUT_FILENO;
 use vectors::Group;
 
 // Room for a whole data file, all 0. A longer one is cut there, and is damaged where a vector or more is then missing.
@@ -18,24 +17,24 @@ fn room() -> [u8; 1048576]
 }
 
 // The group's vectors, from the data file of this name.
-fn run(group: Group, name: &[u8]) {
+fn run(rt: &HostRuntime, group: Group, name: &[u8]) {
     let mut data = room();
-    let got = input::fill_from(name, &mut data);
-    if got.failed {
-        os::fail(name);
+    let got = input::fill_from(rt, name, &mut data);
+    let n = got.filled.count;
+    if let Some(why) = got.why {
+        output::fail(&rt.stderr(), name, why);
         return;
     }
-    let n = got.count;
-    if !output::write(STDOUT_FILENO, comparison::lines::lines(group, &data[..n])) {
-        os::fail(b"standard output");
+    if let Err(why) = output::write(rt, comparison::lines::lines(group, &data[..n])) {
+        output::fail(&rt.stderr(), b"standard output", why);
     }
 }
 
-fn main() {
-    run(Group::Files, b"files");
-    run(Group::Runs, b"runs");
-    run(Group::Hours, b"hours");
-    run(Group::Verdicts, b"verdicts");
-    run(Group::Formulas, b"formulas");
-    run(Group::Classes, b"classes");
+fn main(rt: HostRuntime) {
+    run(&rt, Group::Files, b"files");
+    run(&rt, Group::Runs, b"runs");
+    run(&rt, Group::Hours, b"hours");
+    run(&rt, Group::Verdicts, b"verdicts");
+    run(&rt, Group::Formulas, b"formulas");
+    run(&rt, Group::Classes, b"classes");
 }

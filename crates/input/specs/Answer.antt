@@ -1,13 +1,13 @@
 -- What reading says of itself: how the count goes together with the buffer, and with a failure. Which bytes came, and whether a call of
 -- the system failed, no contract can say: they come from outside.
-use Rattle.std.specs.Prelude.{true, List, ◌≡◌, ℕ, ◌≤◌, ◌<◌, length, ℤ, pos}
-use Rattle.std.specs.Int.Signed.{lt_z}
-use Rattle.io.specs.Counts.{IsPrefixLen, clamp_len}
+use Rattle.std.specs.Prelude.{true, false, List, Result, Ok, Err, ◌≡◌, ℕ, ◌≤◌, ◌<◌, min, length}
+use Rattle.io.specs.Counts.{IsPrefixLen}
 use Rattle.input.specs.declared.Filled.{Filled}
 
--- the answer to a read into `room` bytes, from the number that the call gave: a read that failed has put none there
-abbrev pub answer_of : ℤ → ℕ → Filled
-answer_of got room = record { count = clamp_len got room; failed = lt_z got (pos 0) }
+-- the answer to a read into `room` bytes, from what the call gave: a read that failed has put none there
+abbrev pub answer_of : {E : Type 0} → Result ℕ E → ℕ → Filled
+answer_of (Ok n) room = record { count = min n room; failed = false }
+answer_of (Err e) room = record { count = 0; failed = true }
 
 -- one read into `room` bytes
 pub record OneRead (room : ℕ) (r : Filled) : Type 0 where

@@ -1,31 +1,33 @@
 // Turns a rule typed on standard input into postfix order, and writes its bytes on a line, or `refused` and document 02's number for why.
 #![tactic(auto)]
 
-use libc::{STDERR_FILENO, STDIN_FILENO, STDOUT_FILENO};
-
-fn answer(input: &[u8]) {
+fn answer(rt: &HostRuntime, input: &[u8]) {
     let said = reply::reply_to(input);
     let line = said.line;
     if said.too_long {
-        output::write(STDERR_FILENO, line);
+        // Where standard error takes nothing there is nobody left to tell.
+        match output::write(&rt.stderr(), line) {
+            Ok(()) => {}
+            Err(_) => {}
+        }
         return;
     }
-    if !output::write(STDOUT_FILENO, line) {
-        os::fail(b"standard output");
+    if let Err(why) = output::write(rt, line) {
+        output::fail(&rt.stderr(), b"standard output", why);
     }
 }
 
-fn run(held: &mut [u8]) {
-    let got = input::fill(STDIN_FILENO, held);
-    if got.failed {
-        os::fail(b"standard input");
+fn run(rt: &HostRuntime, held: &mut [u8]) {
+    let got = input::fill(&mut rt.stdin(), held);
+    let n = got.filled.count;
+    if let Some(why) = got.why {
+        output::fail(&rt.stderr(), b"standard input", why);
         return;
     }
-    let n = got.count;
-    answer(&held[..n]);
+    answer(rt, &held[..n]);
 }
 
-fn main() {
+fn main(rt: HostRuntime) {
     let mut held = reply::room();
-    run(&mut held);
+    run(&rt, &mut held);
 }

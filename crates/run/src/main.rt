@@ -17,8 +17,8 @@ ghost use Rattle.io.specs.Counts.{IsPrefixLen};
 ghost use Rattle.session.specs.Session.{heard_all};
 
 use job::{Answer, Job, Taken};
-use libc::{STDERR_FILENO, STDIN_FILENO, STDOUT_FILENO};
 use session::{Heard, Session};
+use std::io::Print;
 
 // The session after some input, and whether it goes on.
 #[derive(Drop)]
@@ -28,20 +28,23 @@ pub struct Turn {
 }
 
 // Says what is to be said.
-fn spoken(heard: Heard) -> Turn
+fn spoken(rt: &HostRuntime, heard: Heard) -> Turn
     ensures { result.session ≡ heard.session }
 {
     let say = heard.say;
     let session = heard.session;
-    let goes_on = output::write(STDOUT_FILENO, session::text_of(say));
-    if !goes_on {
-        os::fail(b"standard output");
+    if let Err(why) = output::write(rt, session::text_of(say)) {
+        output::fail(&rt.stderr(), b"standard output", why);
+        return end(session);
     }
-    Turn { session, goes_on }
+    Turn {
+        session,
+        goes_on: true,
+    }
 }
 
 // Hears the bytes of one read, and answers each line that they end. Where the session goes on, each of them has been heard.
-fn piece(session: Session, bytes: &[u8]) -> Turn
+fn piece(rt: &HostRuntime, session: Session, bytes: &[u8]) -> Turn
     ensures { result.goes_on ≡ true → result.session ≡ heard_all session bytes.now }
 {
     let mut turn = Turn {
@@ -51,13 +54,15 @@ fn piece(session: Session, bytes: &[u8]) -> Turn
     let mut i = 0;
     while i < bytes.len() && turn.goes_on {
         let s = turn.session;
-        turn = spoken(session::hear(s, bytes[i]));
+        turn = spoken(rt, session::hear(s, bytes[i]));
         i += 1;
     }
     turn
 }
 
-fn end(session: Session) -> Turn {
+fn end(session: Session) -> Turn
+    ensures { result.session ≡ session }
+{
     Turn {
         session,
         goes_on: false,
@@ -65,24 +70,24 @@ fn end(session: Session) -> Turn {
 }
 
 // Reads once and answers what came.
-fn round(session: Session) -> Turn {
+fn round(rt: &HostRuntime, session: Session) -> Turn {
     let mut buf = [0u8; 4096];
-    let got = input::read_some(STDIN_FILENO, &mut buf);
-    if got.failed {
-        os::fail(b"standard input");
+    let got = input::read_some(&mut rt.stdin(), &mut buf);
+    let n = got.filled.count;
+    if let Some(why) = got.why {
+        output::fail(&rt.stderr(), b"standard input", why);
         return end(session);
     }
-    let n = got.count;
     if n == 0 {
-        let last = spoken(session::hear_end(session));
+        let last = spoken(rt, session::hear_end(session));
         let s = last.session;
         return end(s);
     }
-    piece(session, &buf[..n])
+    piece(rt, session, &buf[..n])
 }
 
 // A proved loop ends, and nothing says that the input does: the turns are counted down from a number that no session meets.
-fn talk(session: Session) {
+fn talk(rt: &HostRuntime, session: Session) {
     let mut turn = Turn {
         session,
         goes_on: true,
@@ -90,95 +95,98 @@ fn talk(session: Session) {
     let mut turns = u64::MAX;
     while turns > 0 && turn.goes_on {
         let s = turn.session;
-        turn = round(s);
+        turn = round(rt, s);
         turns -= 1;
     }
 }
 
 // Tells what a start tells, and goes on with the entries unless it is refused.
-fn begin(taken: Taken) {
+fn begin(rt: &HostRuntime, taken: Taken) {
     let answer = taken.answer;
     let job = taken.job;
-    if !output::write(STDOUT_FILENO, answers::lines(answer)) {
-        os::fail(b"standard output");
+    if let Err(why) = output::write(rt, answers::lines(answer)) {
+        output::fail(&rt.stderr(), b"standard output", why);
         return;
     }
     match answer {
-        Answer::Told(_) => talk(session::next_line(job)),
+        Answer::Told(_) => talk(rt, session::next_line(job)),
         Answer::Refused(_) => (),
     }
 }
 
-fn ask_for_a_plan() {
-    io::write_all(
-        STDERR_FILENO,
-        b"run: the path of a plan file is due, and for a timed job the path of a window file after it\n",
-    );
+fn ask_for_a_plan(rt: &HostRuntime) {
+    let due = b"run: the path of a plan file is due, and for a timed job the path of a window file after it\n";
+    // Where standard error takes nothing there is nobody left to tell.
+    match rt.stderr().write_all(due) {
+        Ok(()) => {}
+        Err(_) => {}
+    }
 }
 
 // The length of the i-th argument, the path of a file, which is put into `path`; 0 where there is none, which is told.
-fn path_at(i: usize, path: &mut [u8]) -> usize
+fn path_at(rt: &HostRuntime, i: usize, path: &mut [u8]) -> usize
     ensures { IsPrefixLen result path.new }
 {
-    let n = os::arg(i, path);
-    if os::errno() != 0 {
-        os::fail(b"the path of a file");
+    let got = input::arg_at(rt, i, path);
+    let n = got.filled.count;
+    if let Some(why) = got.why {
+        output::fail(&rt.stderr(), b"the path of a file", why);
         return 0;
     }
     if n == 0 {
-        ask_for_a_plan();
+        ask_for_a_plan(rt);
     }
     n
 }
 
 // A window file that is longer than any is refused, and so are its first MOST_WINDOWS + 1 bytes: they are no whole number of windows.
-fn open_windows(file: &[u8], path: &[u8]) {
+fn open_windows(rt: &HostRuntime, file: &[u8], path: &[u8]) {
     let mut windows = [0u8; job::MOST_WINDOWS + 1];
-    let got = input::fill_from(path, &mut windows);
-    if got.failed {
-        os::fail(path);
+    let got = input::fill_from(rt, path, &mut windows);
+    let n = got.filled.count;
+    if let Some(why) = got.why {
+        output::fail(&rt.stderr(), path, why);
         return;
     }
-    let n = got.count;
-    begin(Job::start_timed(file, &windows[..n]));
+    begin(rt, Job::start_timed(file, &windows[..n]));
 }
 
 // A job of the plan file: a timed one where a second argument is there.
-fn start(file: &[u8]) {
-    if os::arg_count() == 2 {
-        begin(Job::start(file));
+fn start(rt: &HostRuntime, file: &[u8]) {
+    if input::arg_count(rt) == 2 {
+        begin(rt, Job::start(file));
         return;
     }
     let mut path = io::buffer();
-    let n = path_at(2, &mut path);
+    let n = path_at(rt, 2, &mut path);
     if n == 0 {
         return;
     }
-    open_windows(file, &path[..n]);
+    open_windows(rt, file, &path[..n]);
 }
 
 // A file that is longer than the largest plan file is refused by the number of its first MOST_BYTES + 1 bytes.
-fn open(path: &[u8]) {
+fn open(rt: &HostRuntime, path: &[u8]) {
     let mut file = [0u8; plan::MOST_BYTES + 1];
-    let got = input::fill_from(path, &mut file);
-    if got.failed {
-        os::fail(path);
+    let got = input::fill_from(rt, path, &mut file);
+    let n = got.filled.count;
+    if let Some(why) = got.why {
+        output::fail(&rt.stderr(), path, why);
         return;
     }
-    let n = got.count;
-    start(&file[..n]);
+    start(rt, &file[..n]);
 }
 
-fn main() {
-    let given = os::arg_count();
+fn main(rt: HostRuntime) {
+    let given = input::arg_count(&rt);
     if given < 2 || given > 3 {
-        ask_for_a_plan();
+        ask_for_a_plan(&rt);
         return;
     }
     let mut path = io::buffer();
-    let n = path_at(1, &mut path);
+    let n = path_at(&rt, 1, &mut path);
     if n == 0 {
         return;
     }
-    open(&path[..n]);
+    open(&rt, &path[..n]);
 }

@@ -1,8 +1,6 @@
 -- `text::put_decimal` meets its contract: the digits before the last are put first, by a call with the tenth part, which is the smaller number.
 use mathlib.Core.Path.{◌∙◌}
-use Prim.Native.Nat.{ℕ, ◌<◌}
 use native.Mathlib.Omega.{arith}
-use borrow.Author.Rules.{rules}
 use Rattle.text.proofs.Decimals.{put_small, put_large}
 use Rattle.text.proofs.+put_decimal.Goals as goal
 

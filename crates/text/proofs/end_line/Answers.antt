@@ -1,5 +1,4 @@
 -- `text::end_line` meets its contract: the blank, the number, and then the newline.
-use borrow.Author.Rules.{rules}
 use Rattle.text.specs.Text.{pushed}
 use Rattle.text.specs.Decimal.{decimal}
 use Rattle.text.specs.Lines.{line}

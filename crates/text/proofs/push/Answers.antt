@@ -1,5 +1,4 @@
 -- `text::push` meets its contract: each return by the test that led there.
-use borrow.Author.Rules.{rules}
 use borrow.Author.Tests.{lt-ltb, le-ltb}
 use Rattle.text.specs.Text.{pushed}
 use Rattle.text.proofs.push.Goals as goal

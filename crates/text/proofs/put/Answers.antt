@@ -1,10 +1,6 @@
 -- `text::put` meets its contract. The invariant: what is left of the bytes, put into the text so far, gives what all of them give to the first.
-use mathlib.Core.Path.{◌≡◌, sym, ◌∙◌}
-use Prim.Native.Nat.{◌-◌, ◌≤◌}
+use mathlib.Core.Path.{sym, ◌∙◌}
 use native.Mathlib.Omega.{arith}
-use lib.ListN.{length, drop}
-use borrow.Author.Rules.{rules}
-use Rattle.text.specs.Text.{appended}
 use Rattle.text.proofs.Texts.{appended_next, appended_end}
 use Rattle.text.proofs.put.Goals as goal
 

@@ -1,5 +1,4 @@
 -- `text::put_line` meets its contract: the text, and then the newline.
-use borrow.Author.Rules.{rules}
 use Rattle.text.proofs.Ends.{lined}
 use Rattle.text.proofs.put_line.Goals as goal
 

@@ -1,6 +1,5 @@
 -- `text::put_numbered` meets its contract: the word, and then the rest of its line.
 use mathlib.Core.List.{◌∷◌}
-use borrow.Author.Rules.{rules}
 use Rattle.text.specs.Decimal.{decimal}
 use Rattle.text.specs.Lines.{line}
 use Rattle.text.proofs.Texts.{appended_both}
