@@ -62,7 +62,7 @@ fn moved(from: Reading, at: usize) -> Reading
 }
 
 // A letter, or a rule in brackets.
-#[cycle(bracket_conjunction_disjunction_implication_negation)]
+#[cycle(readers)]
 fn bracket(text: &[u8], from: Reading, depth: usize) -> Reading
     ensures { Took operand text.now depth from result }
 {
@@ -84,7 +84,7 @@ fn bracket(text: &[u8], from: Reading, depth: usize) -> Reading
 }
 
 // "Not binds tightest"
-#[cycle(bracket_conjunction_disjunction_implication_negation)]
+#[cycle(readers)]
 fn negation(text: &[u8], from: Reading, depth: usize) -> Reading
     ensures { Took negation text.now depth from result }
 {
@@ -98,7 +98,7 @@ fn negation(text: &[u8], from: Reading, depth: usize) -> Reading
 }
 
 // "then and"; "and and or group to the left"
-#[cycle(bracket_conjunction_disjunction_implication_negation)]
+#[cycle(readers)]
 fn conjunction(text: &[u8], from: Reading, depth: usize) -> Reading
     ensures { Took (chain and) text.now depth from result }
 {
@@ -115,7 +115,7 @@ fn conjunction(text: &[u8], from: Reading, depth: usize) -> Reading
 }
 
 // "or"
-#[cycle(bracket_conjunction_disjunction_implication_negation)]
+#[cycle(readers)]
 fn disjunction(text: &[u8], from: Reading, depth: usize) -> Reading
     ensures { Took (chain or) text.now depth from result }
 {
@@ -132,7 +132,7 @@ fn disjunction(text: &[u8], from: Reading, depth: usize) -> Reading
 }
 
 // "implies to the right"; "p implies q" is "not p or q"
-#[cycle(bracket_conjunction_disjunction_implication_negation)]
+#[cycle(readers)]
 fn implication(text: &[u8], from: Reading, depth: usize) -> Reading
     ensures { Took implication text.now depth from result }
 {

@@ -1,6 +1,6 @@
 -- The readers' way through the tokens takes each part of the grammar, and takes nothing else in its place: so some tokens have one postfix list.
 -- A part of a chain is taken with the tail of the chain behind it, so that the recursion is on the part alone.
-use mathlib.Core.Path.{◌≡◌, refl, sym, subst, ◌∙◌}
+use mathlib.Core.Path.{◌≡◌, refl, sym, ap, subst, ◌∙◌}
 use mathlib.Core.List.{List, [], ◌∷◌, ◌++◌, append_assoc, append-nil}
 use Prim.Native.Nat.{ℕ, suc}
 use native.Mathlib.Omega.{arith}
@@ -97,23 +97,32 @@ followed f e same y =
 same_bracket : {p q : List ℕ} {us vs : List Token} → Same p q (closing ∷ us) (closing ∷ vs) → Same p q us vs
 same_bracket e = let k = e.rest in record { postfix = e.postfix; rest = cc }
 
+-- The two lists of tokens apart, and an equation between them.
+same_at : {l : r.Reader} {d : ℕ} {ts ss us vs : List Token} {p q : List ℕ} → ts ≡ ss → Reads l d ts p us → Reads l d ss q vs → Same p q us vs
+same_at e (r.action h) (r.action k) = record { postfix = cc; rest = cc }
+same_at e (r.action h) (r.bracket y) = absurd (cc)
+same_at e (r.bracket x) (r.action k) = absurd (cc)
+same_at e (r.bracket {ts = ts} x) (r.bracket {ts = ss} y) = same_bracket (same_at (let t : ts ≡ ss = cc in t) x y)
+same_at e (r.negated {ts = ts} x) (r.negated {ts = ss} y) =
+    let t : ts ≡ ss = cc in let k = same_at t x y in record { postfix = rw k.postfix; rest = k.rest }
+same_at e (r.negated x) (r.plain y) = absurd (operand_first y (ap first (sym e)))
+same_at e (r.plain x) (r.negated y) = absurd (operand_first x (ap first e))
+same_at e (r.plain x) (r.plain y) = same_at e x y
+same_at e (r.chained x xs) (r.chained y ys) = followed (λ p. p) (same_at e x y) (λ z. same_at refl xs z) ys
+same_at e (r.more {o = o} {ts = ts} x xs) (r.more {ts = ss} y ys) =
+    followed (λ p. p ++ (byte o ∷ [])) (same_at (let t : ts ≡ ss = cc in t) x y) (λ z. same_at refl xs z) ys
+same_at e (r.more x xs) (r.no_more h) = absurd (h (ap first (sym e)))
+same_at e (r.no_more h) (r.more y ys) = absurd (h (ap first e))
+same_at e (r.no_more h) (r.no_more k) = record { postfix = refl; rest = e }
+same_at e (r.then x xs) (r.then y ys) = followed (λ p. p) (same_at e x y) (λ z. same_at refl xs z) ys
+same_at e (r.implied {ts = ts} x) (r.implied {ts = ss} y) =
+    let t : ts ≡ ss = cc in let k = same_at t x y in record { postfix = rw k.postfix; rest = k.rest }
+same_at e (r.implied x) (r.not_implied h) = absurd (h (ap first (sym e)))
+same_at e (r.not_implied h) (r.implied y) = absurd (h (ap first e))
+same_at e (r.not_implied h) (r.not_implied k) = record { postfix = refl; rest = e }
+
 same : {l : r.Reader} {d : ℕ} {ts us vs : List Token} {p q : List ℕ} → Reads l d ts p us → Reads l d ts q vs → Same p q us vs
-same (r.action h) (r.action k) = record { postfix = refl; rest = refl }
-same (r.bracket x) (r.bracket y) = same_bracket (same x y)
-same (r.negated x) (r.negated y) = let e = same x y in record { postfix = rw e.postfix; rest = e.rest }
-same (r.negated x) (r.plain y) = absurd (operand_first y refl)
-same (r.plain x) (r.negated y) = absurd (operand_first x refl)
-same (r.plain x) (r.plain y) = same x y
-same (r.chained x xs) (r.chained y ys) = followed (λ p. p) (same x y) (λ z. same xs z) ys
-same (r.more {o = o} x xs) (r.more y ys) = followed (λ p. p ++ (byte o ∷ [])) (same x y) (λ z. same xs z) ys
-same (r.more x xs) (r.no_more h) = absurd (h refl)
-same (r.no_more h) (r.more y ys) = absurd (h refl)
-same (r.no_more h) (r.no_more k) = record { postfix = refl; rest = refl }
-same (r.then x xs) (r.then y ys) = followed (λ p. p) (same x y) (λ z. same xs z) ys
-same (r.implied x) (r.implied y) = let e = same x y in record { postfix = rw e.postfix; rest = e.rest }
-same (r.implied x) (r.not_implied h) = absurd (h refl)
-same (r.not_implied h) (r.implied y) = absurd (h refl)
-same (r.not_implied h) (r.not_implied k) = record { postfix = refl; rest = refl }
+same x y = same_at refl x y
 
 -- A whole rule, with nothing behind it.
 pub whole : {d : ℕ} {ts : List Token} {p : List ℕ} → Part g.implication d ts p → Reads r.implication d ts p []

@@ -7,4 +7,4 @@ implication-end-requires c = tt
 
 pub returns : goal.returns
 returns c =
-    turning.read c.requires.0 c.requires.1 c.implication-end.ensures
+    turning.read c.requires.becomes c.requires.n_bound c.implication-end.ensures

@@ -16,14 +16,14 @@ refused-requires-then-n-gt127 c = tt
 
 pub returns-then-n-gt127 : goal.returns-then-n-gt127
 returns-then-n-gt127 c =
-    let b = turning.becomes _ _ (sym c.count_of.ensures ∙ c.n-1.given.1) in
+    let b = turning.becomes _ _ (sym c.count_of.ensures ∙ c.in-Bytes.is) in
     let e = b.bytes in
     let h = c.if-n-gt127.true in
     c.refused-then-n-gt127.ensures ∙ sym (turning.too_long _ b.postfix b.typed (omega arith))
 
 pub read-requires : goal.read-requires
 read-requires c =
-    (turning.becomes _ _ (sym c.count_of.ensures ∙ c.n-1.given.1), c.if-n-gt127.false)
+    record { becomes = turning.becomes _ _ (sym c.count_of.ensures ∙ c.in-Bytes.is); n_bound = c.if-n-gt127.false }
 
 pub returns-in-Outside : goal.returns-in-Outside
-returns-in-Outside c = c.refused.ensures ∙ sym (turning.outside_14 _ (turning.is_outside _ (sym c.count_of.ensures ∙ c.enum_told-1.given.1)))
+returns-in-Outside c = c.refused.ensures ∙ sym (turning.outside_14 _ (turning.is_outside _ (sym c.count_of.ensures ∙ c.in-Outside.is)))

@@ -16,7 +16,7 @@ step-p-requires c =
     let i = c.loop-t.invariant in
     let m = i.most in
     let n = i.within in
-    let g = c.well-formed.0 in
+    let g = c.type_inv.text in
     omega arith
 
 pub returns-then-not-p : goal.returns-then-not-p

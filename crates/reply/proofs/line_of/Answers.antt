@@ -9,9 +9,9 @@ use Rattle.reply.proofs.line_of.Goals as goal
 
 pub returns-in-Postfix : goal.returns-in-Postfix
 returns-in-Postfix c =
-    line_put c.args.turned c.answer-1.given.1 c.empty.ensures c.put_items.ensures c.push.ensures
+    line_put c.args.turned c.in-Postfix.is c.empty.ensures c.put_items.ensures c.push.ensures
 
 pub returns-in-Refused : goal.returns-in-Refused
 returns-in-Refused c =
-    rw c.answer-in-Refused-1.given.1
+    rw c.in-Refused.is
     (put_alone (line_with [] (Refused _)) c.put_numbered.ensures c.empty-in-Refused.ensures (line_short [] (Refused _)))

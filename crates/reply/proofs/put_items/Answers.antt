@@ -18,7 +18,7 @@ pub returns-then-i-n : goal.returns-then-i-n
 returns-then-i-n c =
     let at = c.loop-i in
     let a = c.args in
-    sym (at.invariant.1 ∙ each_end at.grown (item_at a.t2) (min a.n 127) at.i (omega arith))
+    sym (at.invariant.1 ∙ each_end at.grown (item_at a.bytes) (min a.n 127) at.i (omega arith))
 
 pub overflow_add-i : goal.overflow_add-i
 overflow_add-i c = omega arith
@@ -30,10 +30,10 @@ pub loop-i-preserved : goal.loop-i-preserved
 loop-i-preserved c =
     let at = c.loop-i in
     let a = c.args in
-    (omega arith, at.invariant.1 ∙ (each_step at.grown (item_at a.t2) (min a.n 127) at.i (omega arith) ∙ rw c.put_item-grown.ensures))
+    (omega arith, at.invariant.1 ∙ (each_step at.grown (item_at a.bytes) (min a.n 127) at.i (omega arith) ∙ rw c.put_item-grown.ensures))
 
 pub returns : goal.returns
 returns c =
     let at = c.loop-i in
     let a = c.args in
-    sym (at.invariant.1 ∙ each_end at.grown (item_at a.t2) (min a.n 127) at.i (omega arith))
+    sym (at.invariant.1 ∙ each_end at.grown (item_at a.bytes) (min a.n 127) at.i (omega arith))

@@ -10,13 +10,13 @@ use Rattle.reply.proofs.reply_to.Goals as goal
 
 pub returns-then-n-gt-LONGEST : goal.returns-then-n-gt-LONGEST
 returns-then-n-gt-LONGEST c =
-    let n = c.typed_length_lem.ensures.0 in
+    let n = c.typed_length-n.ensures.0 in
     rw (lt-ltb longest _ (rw n at c.if-n-gt-LONGEST.true), put_alone too_long_line c.put-line.ensures c.empty.ensures (omega arith))
 
 pub slice_bounds-rule_of-end : goal.slice_bounds-rule_of-end
-slice_bounds-rule_of-end c = sym (length-take-le _ _ c.typed_length_lem.ensures.1)
+slice_bounds-rule_of-end c = sym (length-take-le _ _ c.typed_length-n.ensures.1)
 
 pub returns : goal.returns
 returns c =
-    let n = c.typed_length_lem.ensures.0 in
+    let n = c.typed_length-n.ensures.0 in
     rw (le-ltb longest _ (rw n at c.if-n-gt-LONGEST.false), c.line_of-line.ensures, c.rule_of.ensures, n)

@@ -5,4 +5,4 @@ use lib.ListN.{length-replicate}
 use Rattle.reply.proofs.room.Goals as goal
 
 pub returns : goal.returns
-returns c = (sym (length-replicate {A = ℕ} 65538 0), refl)
+returns c = record { longest_value = sym (length-replicate {A = ℕ} 65538 0); value = refl }

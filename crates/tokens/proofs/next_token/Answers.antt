@@ -7,4 +7,4 @@ pub returns-then-i-text : goal.returns-then-i-text
 returns-then-i-text c = next_end _ _ _ c.skip-i.ensures c.if-i-text.true
 
 pub returns : goal.returns
-returns c = next_some _ _ _ _ _ c.skip-i.ensures c.token_number-kind.ensures c.type_size.ensures.0
+returns c = next_some _ _ _ _ _ c.skip-i.ensures c.token_number-kind.ensures c.size_of.ensures.0
