@@ -9,7 +9,7 @@ use lib.ListN.{drop}
 use borrow.Author.Tests.{ltb-true, eqb-true}
 use Rattle.blocks.proofs.Bounded.{both_true}
 use Rattle.text.specs.Text.{ascii}
-use Rattle.grammar.specs.Token.{and, or, Token, letter, not, operator, implies, opening, closing}
+use Rattle.grammar.specs.Token.{and, Token, letter, not, operator, implies, opening, closing}
 use Rattle.grammar.specs.Spelling.{Spells}
 use Rattle.grammar.specs.Grammar.{Part, implication, negation, loosest, action, bracket, negated, plain, joined, single, if_then, no_implies}
 use Rattle.grammar.specs.Typed.{Typed, deepest}

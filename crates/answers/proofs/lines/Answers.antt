@@ -9,9 +9,9 @@ use Rattle.answers.proofs.lines.Goals as goal
 
 pub returns-in-Told : goal.returns-in-Told
 returns-in-Told c =
-    rw (c.a-1.given.1, c.put_told.ensures, c.empty.ensures) (appended_empty _ (told_few _))
+    rw (c.in-Told.is, c.put_told.ensures, c.empty.ensures) (appended_empty _ (told_few _))
 
 pub returns-in-Refused : goal.returns-in-Refused
 returns-in-Refused c =
-    let n = c.a-in-Refused-1.given in
-    rw n.1 (put_alone _ c.put_numbered.ensures c.empty-in-Refused.ensures (omega (arith, numbered_short refused n.0.0 (omega arith))))
+    rw c.in-Refused.is
+    (put_alone _ c.put_numbered.ensures c.empty-in-Refused.ensures (omega (arith, numbered_short refused c.in-Refused.number (omega arith))))

@@ -4,7 +4,7 @@ use borrow.Author.Rules.{rules}
 use Rattle.session.proofs.hear_end.Goals as goal
 
 pub returns-then-has_begun : goal.returns-then-has_begun
-returns-then-has_begun c = rw (sym c.has_begun_lem.ensures ∙ c.if-has_begun.true) c.answer.ensures
+returns-then-has_begun c = rw (sym c.has_begun.ensures ∙ c.if-has_begun.true) c.answer.ensures
 
 pub returns : goal.returns
-returns c = rw (sym c.has_begun_lem.ensures ∙ c.if-has_begun.false) c.keep.ensures
+returns c = rw (sym c.has_begun.ensures ∙ c.if-has_begun.false) c.keep.ensures

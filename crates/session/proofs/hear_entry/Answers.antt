@@ -15,5 +15,5 @@ pub returns : goal.returns
 returns c =
     let a = c.args in
     c.answered.ensures
-    ∙ ap heard_answer c.take.ensures.0
+    ∙ ap heard_answer c.take.ensures.value
     ∙ sym (ap (λ (t : Bool). cond t (heard_no_entry a.job) (heard_answer (take_of a.job a.e))) c.if-job.false)

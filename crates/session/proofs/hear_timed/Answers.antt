@@ -10,7 +10,7 @@ pub returns-then-job : goal.returns-then-job
 returns-then-job c =
     let a = c.args in
     c.answered.ensures
-    ∙ ap heard_answer c.take_at.ensures.0
+    ∙ ap heard_answer c.take_at.ensures.value
     ∙ sym (ap (λ (t : Bool). cond t (heard_answer (take_timed_of a.job a.e a.minute)) (heard_no_entry a.job)) c.if-job.true)
 
 pub returns : goal.returns

@@ -8,10 +8,10 @@ use Rattle.session.proofs.text_of.Goals as goal
 
 pub returns-in-Nothing : goal.returns-in-Nothing
 unfolding appended
-returns-in-Nothing c = rw (c.enum_told-1.given.1, c.empty.ensures) (appended_empty [] (omega arith))
+returns-in-Nothing c = rw (c.in-Nothing.is, c.empty.ensures) (appended_empty [] (omega arith))
 
 pub returns-in-NotAnEntry : goal.returns-in-NotAnEntry
-returns-in-NotAnEntry c = rw (c.enum_told-in-NotAnEntry-1.given.1, c.put.ensures, c.empty-in-NotAnEntry.ensures) (appended_empty _ (omega arith))
+returns-in-NotAnEntry c = rw (c.in-NotAnEntry.is, c.put.ensures, c.empty-in-NotAnEntry.ensures) (appended_empty _ (omega arith))
 
 pub returns-in-Answer : goal.returns-in-Answer
-returns-in-Answer c = rw c.say-1.given.1 c.lines.ensures
+returns-in-Answer c = rw c.in-Answer.is c.lines.ensures

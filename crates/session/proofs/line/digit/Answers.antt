@@ -3,7 +3,7 @@ use borrow.Author.Rules.{rules}
 use Rattle.session.proofs.line.digit.Goals as goal
 
 pub returns-in-Unwritten : goal.returns-in-Unwritten
-returns-in-Unwritten c = rw c.enum_told-1.given.1 c.first_digit.ensures
+returns-in-Unwritten c = rw c.in-Unwritten.is c.first_digit.ensures
 
 pub returns-in-Is : goal.returns-in-Is
-returns-in-Is c = rw c.number-1.given.1 c.further_digit.ensures
+returns-in-Is c = rw c.in-Is.is c.further_digit.ensures

@@ -3,4 +3,4 @@ use borrow.Author.Rules.{rules}
 use Rattle.session.proofs.line.has_begun.Goals as goal
 
 pub returns-in-Unwritten : goal.returns-in-Unwritten
-returns-in-Unwritten c = rw c.enum_told-1.given.1
+returns-in-Unwritten c = rw c.in-Unwritten.is

@@ -3,4 +3,4 @@ use borrow.Author.Rules.{rules}
 use Rattle.session.proofs.line.timed.Goals as goal
 
 pub returns-in-Entry : goal.returns-in-Entry
-returns-in-Entry c = rw c.found-1.given.1 c.with_minute.ensures
+returns-in-Entry c = rw c.in-Entry.is c.with_minute.ensures

@@ -3,4 +3,4 @@ use borrow.Author.Rules.{rules}
 use Rattle.session.proofs.line.with_leaf.Goals as goal
 
 pub returns-in-Is : goal.returns-in-Is
-returns-in-Is c = rw c.leaf-1.given.1 c.with_outcome.ensures
+returns-in-Is c = rw c.in-Is.is c.with_outcome.ensures

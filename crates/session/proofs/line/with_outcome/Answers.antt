@@ -3,4 +3,4 @@ use borrow.Author.Rules.{rules}
 use Rattle.session.proofs.line.with_outcome.Goals as goal
 
 pub returns-in-Is : goal.returns-in-Is
-returns-in-Is c = rw c.outcome-1.given.1 c.entry_with.ensures
+returns-in-Is c = rw c.in-Is.is c.entry_with.ensures
