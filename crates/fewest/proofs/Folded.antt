@@ -1,7 +1,7 @@
 -- The fold over the nodes of a plan is the fold over its process; a composite's costs by the lent rows are those by the cells of its form.
 use mathlib.Core.Path.{◌≡◌, refl, sym}
 use mathlib.Core.Bool.{Bool, true, false, cond}
-use mathlib.Core.List.{List}
+use mathlib.Core.List.{List, []}
 use Prim.Native.Nat.{ℕ, suc, ◌<◌}
 use lib.Dec.{ltb}
 use borrow.Author.Tests.{ltb-false}
@@ -18,6 +18,10 @@ use Rattle.summary.proofs.Exact.{same_number}
 use Rattle.fewest.specs.declared.Costs.{Costs}
 use Rattle.fewest.specs.Wishes.{Wish}
 use Rattle.fewest.specs.Costs.{node_costs, costs_of}
+
+-- what stands past the end of an array of costs
+abbrev pub blank : Costs
+blank = record { by = [] }
 
 module _ (may : ℕ → Wish) (types b : List ℕ) where
   abbrev pub leaf_costs_at : ℕ → Costs

@@ -84,12 +84,12 @@ silent l = no_levels (omega arith) l
 
 module _ (may : ℕ → Wish) (n : ℕ) (k : Kind) where
   none_ran : Ran n [] ⊎ ((may n).absent ≡ true) → (may n).absent ≡ true
-  none_ran (inl (s, m)) = absurd (Memᴰ.not_nil m)
+  none_ran (inl (s, m)) = absurd (Memᴰ.not-nil m)
   none_ran (inr e) = e
 
   -- not run
   none_can : (may n).absent ≡ true → Can may (leaf n k) [] 0
-  none_can e = record { runs = []; by = l_none; meets = record { entries = λ m s x. absurd (Memᴰ.not_nil x); others = λ m h. inr (rw h e) }; fails = refl }
+  none_can e = record { runs = []; by = l_none; meets = record { entries = λ m s x. absurd (Memᴰ.not-nil x); others = λ m h. inr (rw h e) }; fails = refl }
 
   can_none : (j : ℕ) {rs : List Run} → Levels (leaf n k) [] rs → Meets may (leaf n k) (whole rs) → failures (whole rs) ≡ j → ((may n).absent ≡ true) × (j ≡ 0)
   can_none j l_none a e = (none_ran (a.others n refl), sym e)

@@ -19,11 +19,13 @@ here : {n m : ℕ} {s t : Status} (r : Run) → entry n s ≡ entry m t → occu
 here {n} {m} r e = rw (eq-eqb n m (ap leaf_of e))
 
 once : {n : ℕ} {s : Status} (r : Run) → Occurs (entry n s) r → 1 ≤ occurrences n r
+once {n = n} {s = s} [] o = elim o [ ]
 once (entry m t ∷ r) (Memᴰ.head e) = omega (arith, here r e)
 once (entry m t ∷ r) (Memᴰ.tail o) = omega (arith, once r o)
 
 -- and two outcomes count twice
 twice : {n : ℕ} (r : Run) → Occurs (entry n ok) r → Occurs (entry n fail) r → 2 ≤ occurrences n r
+twice {n = n} [] o _ = elim o [ ]
 twice (entry m t ∷ r) (Memᴰ.head e) (Memᴰ.head f) = let z : ◌≡◌ {A = ℕ} 0 1 = ap (λ x. failures (x ∷ [])) (e ∙ sym f) in absurd (omega arith)
 twice (entry m t ∷ r) (Memᴰ.head e) (Memᴰ.tail f) = omega (arith, here r e, once r f)
 twice (entry m t ∷ r) (Memᴰ.tail e) (Memᴰ.head f) = omega (arith, here r f, once r e)

@@ -81,6 +81,7 @@ module _ (b : List ℕ) where
       later (set_held r a (omega (arith, bit_or_lem 0 (set_of (action_sets b) r) a, no_bit a)))
 
   entry_holds : {n : ℕ} (r : Run) (a : ℕ) → Occurs (entry n ok) r → bit_at (leaf_set b n) a ≡ 1 → bit_at (set_of (action_sets b) r) a ≡ 1
+  entry_holds {n = n} [] a o h = elim o [ ]
   entry_holds (e ∷ r) a (Memᴰ.head i) h = or_left (added (action_sets b) e) (set_of (action_sets b) r) a (omega (arith, ap (λ x. bit_at (added (action_sets b) x) a) i))
   entry_holds (e ∷ r) a (Memᴰ.tail m) h = or_right (added (action_sets b) e) (set_of (action_sets b) r) a (entry_holds r a m h)
 

@@ -13,7 +13,7 @@ use Rattle.reorder.proofs.Lists.{joined, occurs_in, occurs_left, occurs_right}
 use Rattle.reorder.proofs.Leaves.{leaf_of, undo_leaf, run_leaf}
 use Rattle.reorder.proofs.Meets.{Of}
 use Rattle.outcomes.specs.Codes.{Code}
-use Rattle.outcomes.proofs.Levels.{Levels, l_run, whole}
+use Rattle.outcomes.proofs.Levels.{Levels, l_none, l_run, whole}
 use Rattle.fewest.specs.Wishes.{Wish, Ran, Meets}
 
 pub interleaved_failures : {p q r : Run} → Interleaving p q r → failures r ≡ failures p + failures q
@@ -23,6 +23,7 @@ interleaved_failures (from_right {e = entry n s} i) = omega (arith, interleaved_
 
 -- the entries of levels are of the process's leaves
 levels_leaf : {P : Process} {c : Code} {rs : List Run} {e : Entry} → Levels P c rs → Occurs e (whole rs) → HasLeaf (leaf_of e) P
+levels_leaf {e = e} (l_none {P = P}) m = elim m [ ]
 levels_leaf {e = e} (l_run {p = p} {rs = rs} d l) m = ⊎_elim (λ x. run_leaf d x) (λ x. undo_leaf (leaf_of e) d (levels_leaf l x)) (occurs_in (joined p (whole rs) refl) m)
 
 pub levels_of_leaves : {P : Process} {c : Code} {rs : List Run} → Levels P c rs → Of P (whole rs)

@@ -46,7 +46,7 @@ leaving_fresh types b S q t c e = record {
   run = q;
   status = t;
   complete = c;
-  has = entries_has [] fresh_table stands_fresh b q (λ e o. absurd (Memᴰ.not_nil o));
+  has = entries_has [] fresh_table stands_fresh b q (λ e o. absurd (Memᴰ.not-nil o));
   leaves = e;
   fails = refl;
 }

@@ -52,7 +52,7 @@ absent_after n table (entry m t ∷ w) h = by (eqb n m) refl h (λ x. absent_aft
     by false i x f = f (omega arith) ∙ rw (ne_eqb m n (λ z. eqb-false n m i (sym z)))
 
 occurs_after : (n : ℕ) (s : Status) (table : Outcomes) (w : Run) → occurrences n w ≤ 1 → Occurs (entry n s) w → outcomes_after table w n ≡ ending s
-occurs_after n s table [] h o = absurd (Memᴰ.not_nil o)
+occurs_after n s table [] h o = absurd (Memᴰ.not-nil o)
 occurs_after n s table (entry m t ∷ w) h (Memᴰ.head e) =
     let i : n ≡ m = cc in
     let j : s ≡ t = cc in
@@ -100,7 +100,7 @@ module _ (types b : List ℕ) (plan : Runnable types b) where
   P = process_of types b
 
   occurs_begins : (x q : Run) (t : Status) (e : Entry) → Complete P (x ++ q) t → Occurs e q → (y : Run) × Begins P (y ++ (e ∷ []))
-  occurs_begins x [] t e c o = absurd (Memᴰ.not_nil o)
+  occurs_begins x [] t e c o = absurd (Memᴰ.not-nil o)
   occurs_begins x (d ∷ q) t e c (Memᴰ.head i) = (x, (q, t, rw (append_assoc x (e ∷ []) q, i) c))
   occurs_begins x (d ∷ q) t e c (Memᴰ.tail o) = occurs_begins (x ++ (d ∷ [])) q t e (rw (append_assoc x (d ∷ []) q) c) o
 

@@ -3,7 +3,7 @@ use borrow.Author.Rules.{rules}
 use Rattle.class.proofs.code.Goals as goal
 
 pub returns-in-Filled : goal.returns-in-Filled
-returns-in-Filled c = rw c.a-1.given.1
+returns-in-Filled c = rw c.in-Filled.is
 
 pub returns-in-Refused : goal.returns-in-Refused
-returns-in-Refused c = rw c.a-in-Refused-1.given.1
+returns-in-Refused c = rw c.in-Refused.is

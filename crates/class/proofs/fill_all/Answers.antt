@@ -11,7 +11,7 @@ use Rattle.class.proofs.Filling.{Sofar, sofar_none, cursor, enough, lent_room, s
 use Rattle.class.proofs.fill_all.Goals as goal
 
 pub loop-at-init : goal.loop-at-init
-loop-at-init c = (refl, sofar_none _ _ c.requires.1)
+loop-at-init c = (refl, sofar_none _ _ c.requires.ready)
 
 pub overflow_add-start : goal.overflow_add-start
 overflow_add-start c = omega (arith, cursor c.args.input.now c.args.answers.now c.loop-at.at c.loop-at.to c.loop-at.answers c.loop-at.invariant.1 (omega arith))
@@ -28,7 +28,10 @@ slice_bounds-fill-end c = omega (arith, cursor c.args.input.now c.args.answers.n
 pub fill-requires : goal.fill-requires
 fill-requires c =
     let l = c.loop-at in
-    (rw l.invariant.0 (omega (arith, left_long l.cleared c.args.work.now c.requires.0, c.requires.0)), lent_room c.args.input.now c.args.answers.now l.at l.to l.answers l.invariant.1 (omega arith))
+    record {
+      work_size_in_bounds = rw l.invariant.0 (omega (arith, left_long l.cleared c.args.work.now c.requires.work_size_in_bounds, c.requires.work_size_in_bounds));
+      place_size_in_bounds = lent_room c.args.input.now c.args.answers.now l.at l.to l.answers l.invariant.1 (omega arith);
+    }
 
 pub loop-at-smaller : goal.loop-at-smaller
 loop-at-smaller c =
@@ -40,14 +43,14 @@ loop-at-preserved c =
     let l = c.loop-at in
     let n = c.number_at in
     let f = c.fill in (
-      f.ensures.1.0 ∙ ap (work_left f.result) l.invariant.0 ∙ left_more l.cleared f.result c.args.work.now ∙ ap (λ (x : Bool). work_left x c.args.work.now) (sym c.either-cleared.ensures),
-      sofar_more c.args.input.now c.args.answers.now l.at l.to l.answers l.invariant.1 (omega arith) (l.at + 2 + n.result) (ap (λ k. l.at + 2 + k) n.ensures.0) f.new.1.1.0 f.ensures.1.1,
+      f.ensures.work_after ∙ ap (work_left f.result) l.invariant.0 ∙ left_more l.cleared f.result c.args.work.now ∙ ap (λ (x : Bool). work_left x c.args.work.now) (sym c.either-cleared.ensures),
+      sofar_more c.args.input.now c.args.answers.now l.at l.to l.answers l.invariant.1 (omega arith) (l.at + 2 + n.result) (ap (λ k. l.at + 2 + k) n.ensures.0) f.new.part f.ensures.place_after,
     )
 
 pub shape_of-work : goal.shape_of-work
-shape_of-work c = ap length c.loop-at.invariant.0 ∙ left_long c.loop-at.cleared c.args.work.now c.requires.0
+shape_of-work c = ap length c.loop-at.invariant.0 ∙ left_long c.loop-at.cleared c.args.work.now c.requires.work_size_in_bounds
 
 pub returns : goal.returns
 returns c =
     let l = c.loop-at in
-    (l.invariant.0, sofar_all c.args.input.now c.args.answers.now l.at l.to l.answers l.invariant.1 (omega arith))
+    record { work_after = l.invariant.0; places_after = sofar_all c.args.input.now c.args.answers.now l.at l.to l.answers l.invariant.1 (omega arith) }

@@ -1,5 +1,6 @@
 -- `class::verdicts` meets its contract: each refusal in its order changes nothing; else each place is filled, and the work area is cleared where no verdict has done so.
 use mathlib.Core.Path.{◌≡◌, refl, sym, ap, subst, ◌∙◌}
+use mathlib.Core.Bool.{not}
 use Prim.Native.Nat.{◌≤◌}
 use lib.ListN.{length, drop}
 use Rattle.judge.specs.Verdict.{work_size}
@@ -19,40 +20,36 @@ returns-then-work-lt-WORK c = record { why = no_work (omega arith); works = refl
 pub returns-in_default : goal.returns-in_default
 returns-in_default c =
     let s = c.args.input.now in
-    record { why = no_class (omega arith) (subst (λ (x : Count). CountOf s x) c.enum_told-1.given.1 c.count_files.ensures); works = refl; answers = refl }
-
--- how many files there are
-counted : (c : tie.After-known-told) → Counted c.args.input.now c.n-1.given.0.0
-counted c = subst (λ (x : Count). CountOf c.args.input.now x) c.n-1.given.1 c.count_files.ensures
+    record { why = no_class (omega arith) ?; works = refl; answers = refl }
 
 pub overflow_mul-n : goal.overflow_mul-n
-overflow_mul-n c = let k = counted c in omega (arith, k.count, k.class.few)
+overflow_mul-n c = let k : Counted c.args.input.now c.in-Files.n = c.in-Files.ensures in omega (arith, k.count, k.class.few)
 
 pub returns-then-answers-n : goal.returns-then-answers-n
 returns-then-answers-n c =
-    let k = counted c.before in
+    let k : Counted c.args.input.now c.in-Files.n = c.in-Files.ensures in
     record { why = no_room (omega arith) k.files k.class (omega (arith, k.count)); works = refl; answers = refl }
 
 pub fill_all-requires : goal.fill_all-requires
 fill_all-requires c =
-    let k = counted c.before in
-    (omega arith, record { files = k.files; holds = k.class.holds; room = omega (arith, k.count) })
+    let k : Counted c.args.input.now c.in-Files.n = c.in-Files.ensures in
+    record { work_size_in_bounds = omega arith; ready = record { files = k.files; holds = k.class.holds; room = omega (arith, k.count) } }
 
 -- no verdict has cleared the work area
 pub returns-then-not-fill_all : goal.returns-then-not-fill_all
 returns-then-not-fill_all c =
-    let k = counted c.before in
+    let k : Counted c.args.input.now c.in-Files.n = c.in-Files.ensures in
     let a = c.args in
     let f = c.fill_all in
-    let kept : f.new.1.0 ≡ a.work.now = f.ensures.0 ∙ not_cleared f.result a.work.now c.if-not-fill_all.true in
-    all_filled a.input.now a.work.now c.clear.new.0 a.answers.now f.new.1.1.0 _ k (omega arith) (omega arith)
-    (c.clear.ensures.1 ∙ cleared a.work.now f.new.1.0 (omega (arith, ap length kept)) (ap (drop work_size) kept)) f.ensures.1
+    let kept : f.new.work ≡ a.work.now = f.ensures.work_after ∙ not_cleared f.result a.work.now (ap not c.if-not-fill_all.true) in
+    all_filled a.input.now a.work.now c.clear.new.dst a.answers.now f.new.answers _ k (omega arith) (omega arith)
+    (c.clear.ensures.dst_after ∙ cleared a.work.now f.new.work (omega (arith, ap length kept)) (ap (drop work_size) kept)) f.ensures.places_after
 
 -- one has
 pub returns-else-not-fill_all : goal.returns-else-not-fill_all
 returns-else-not-fill_all c =
-    let k = counted c.before in
+    let k : Counted c.args.input.now c.in-Files.n = c.in-Files.ensures in
     let a = c.args in
     let f = c.fill_all in
-    all_filled a.input.now a.work.now f.new.1.0 a.answers.now f.new.1.1.0 _ k (omega arith) (omega arith)
-    (f.ensures.0 ∙ is_cleared f.result a.work.now c.if-not-fill_all.false) f.ensures.1
+    all_filled a.input.now a.work.now f.new.work a.answers.now f.new.answers _ k (omega arith) (omega arith)
+    (f.ensures.work_after ∙ is_cleared f.result a.work.now (ap not c.if-not-fill_all.false)) f.ensures.places_after

@@ -22,30 +22,21 @@ and_right : (a b : Bool) → (a && b) ≡ true → b ≡ true
 and_right true b e = e
 and_right false b e = absurd (true≢false (sym e))
 
--- where an action is due
-due_left : (c : search-lts.Else2 (claims t) (search-at t) search'.Post invariant-loop-i decreases-loop-i) → c.choose-c.result.action < c.args.actions
-due_left c = omega (arith, c.choose-c.ensures.low, c.if-a-actions.false)
-at-due : (c : search-lts.Else2 (claims t) (search-at t) search'.Post invariant-loop-i decreases-loop-i) → let a = c.args in AtDue a.actions a.types.now a.nodes.now a.set a.table.now c.choose-c.result.action
-at-due c =
-    let a = c.args in
-    let h = c.choose-c in
-    due_tried a.actions a.types.now a.nodes.now a.set c.requires.1.0 a.table.now c.requires.1.3 h.result.action (due_left c) (h.ensures.is_due (due_left c))
-
 pub is_cut-requires : goal.is_cut-requires
-is_cut-requires t c = (c.requires.1.0.plan, c.requires.1.1)
+is_cut-requires t c = (c.requires.0.plan, c.requires.1)
 
 -- ruled out
 pub returns-then-is_cut : goal.returns-then-is_cut
 returns-then-is_cut t c =
     let a = c.args in
     let h : leb a.best (fewest_of (wishes a.nodes.now a.set a.table.now) (process_of a.types.now a.nodes.now)) ≡ true = and_right a.other _ (sym c.is_cut.ensures ∙ c.if-is_cut.true) in
-    omega (arith, leb-true a.best _ h, cut a.actions a.types.now a.nodes.now a.set c.requires.1.0 a.table.now c.requires.1.3)
+    omega (arith, leb-true a.best _ h, cut a.actions a.types.now a.nodes.now a.set c.requires.0 a.table.now c.requires.3)
 
 pub choose-c-requires : goal.choose-c-requires
-choose-c-requires t c = (c.requires.1.0.plan, c.requires.1.1, c.requires.1.0.few)
+choose-c-requires t c = (c.requires.0.plan, c.requires.1, c.requires.0.few)
 
 pub fold-requires : goal.fold-requires
-fold-requires t c = (c.requires.1.0.plan, c.requires.1.1)
+fold-requires t c = (c.requires.0.plan, c.requires.1)
 
 -- none is due
 pub returns-then-a-actions : goal.returns-then-a-actions
@@ -57,13 +48,15 @@ returns-then-a-actions t c =
 -- no candidate is left
 pub returns-then-c-eq0 : goal.returns-then-c-eq0
 returns-then-c-eq0 t c =
-    omega (arith, (at-due c).nothing c.args.best c.requires.1.2 (c.choose-c.ensures.ruled_out c.if-c-eq0.true))
+    let left : c.choose-c.result.action < c.args.actions = omega (arith, c.choose-c.ensures.low, c.if-a-actions.false) in
+    let tried = due_tried c.args.actions c.args.types.now c.args.nodes.now c.args.set c.requires.0 c.args.table.now c.requires.3 c.choose-c.result.action left (c.choose-c.ensures.is_due left) in
+    omega (arith, tried.nothing c.args.best c.requires.2 (c.choose-c.ensures.ruled_out c.if-c-eq0.true))
 
 pub candidates-several-requires : goal.candidates-several-requires
-candidates-several-requires t c = c.requires.1.0.plan.nodes_few
+candidates-several-requires t c = c.requires.0.plan.nodes_few
 
 pub next_candidate-i-requires : goal.next_candidate-i-requires
-next_candidate-i-requires t c = (omega arith, c.requires.1.0.plan.nodes_few)
+next_candidate-i-requires t c = (omega arith, c.requires.0.plan.nodes_few)
 
 pub loop-i-init : goal.loop-i-init
 loop-i-init t c =
@@ -71,26 +64,27 @@ loop-i-init t c =
     let d = c.choose-c.result.action in
     let n = c.next_candidate-i in
     let z = least_to (candidate a.nodes.now a.table.now d) (λ m. searched a.types.now a.nodes.now a.set a.actions 0 (put a.table.now m 1)) 0 (count a.nodes.now) n.result n.ensures in
-    (refl, n.ensures.low, n.ensures.passes, omega (arith, z, c.requires.1.2))
+    (refl, n.ensures.low, n.ensures.passes, omega (arith, z, c.requires.2))
 
 pub with_finished-t-requires : goal.with_finished-t-requires
-with_finished-t-requires t c = omega (arith, c.requires.1.0.plan.nodes_few)
+with_finished-t-requires t c = omega (arith, c.requires.0.plan.nodes_few)
 
 pub search-found-requires : goal.search-found-requires
 search-found-requires t c =
+    let left : c.choose-c.result.action < c.args.actions = omega (arith, c.choose-c.ensures.low, c.if-a-actions.false) in
     let a = c.args in
     let d = c.choose-c.result.action in
     let i = c.loop-i.i in
-    let free = free_candidate a.types.now a.nodes.now a.set a.table.now d i (omega arith) (c.choose-c.ensures.is_due (due_left c)) (c.loop-i.invariant.2 (omega arith)) in
-    let less = one_less a.table.now i (omega (arith, c.requires.1.3, c.requires.1.0.plan.nodes_few)) free in
+    let free = free_candidate a.types.now a.nodes.now a.set a.table.now d i (omega arith) (c.choose-c.ensures.is_due left) (c.loop-i.invariant.2 (omega arith)) in
+    let less = one_less a.table.now i (omega (arith, c.requires.3, c.requires.0.plan.nodes_few)) free in
     let t = c.with_finished-t.ensures in
-    (rw t (omega (arith, less, c.requires.0)), (c.requires.1.0, c.requires.1.1, omega (arith, c.requires.1.2), rw t (simp length-set c.requires.1.3)))
+    (rw t (omega (arith, less, c.decreases)), (c.requires.0, c.requires.1, omega (arith, c.requires.2), rw t (simp length-set c.requires.3)))
 
 pub overflow_add-i : goal.overflow_add-i
-overflow_add-i t c = omega (arith, c.requires.1.0.plan.nodes_few)
+overflow_add-i t c = omega (arith, c.requires.0.plan.nodes_few)
 
 pub next_candidate-i-requires-in-loop-i : goal.next_candidate-i-requires-in-loop-i
-next_candidate-i-requires-in-loop-i t c = (omega arith, c.requires.1.0.plan.nodes_few)
+next_candidate-i-requires-in-loop-i t c = (omega arith, c.requires.0.plan.nodes_few)
 
 pub loop-i-smaller : goal.loop-i-smaller
 loop-i-smaller t c = omega (arith, c.next_candidate-i-in-loop-i.ensures.from, c.next_candidate-i-in-loop-i.ensures.low)
@@ -109,8 +103,7 @@ loop-i-preserved t c =
 -- all candidates tried
 pub returns : goal.returns
 returns t c =
+    let left : c.choose-c.result.action < c.args.actions = omega (arith, c.choose-c.ensures.low, c.if-a-actions.false) in
+    let tried = due_tried c.args.actions c.args.types.now c.args.nodes.now c.args.set c.requires.0 c.args.table.now c.requires.3 c.choose-c.result.action left (c.choose-c.ensures.is_due left) in
     let i : c.loop-i.i ≡ count c.args.nodes.now = omega arith in
-    rw (at-due c).branch (rw i at c.loop-i.invariant.3)
-
-pub search-found-requires : goal.search-found-requires
-search-found-requires t c = search-found-requires t
+    rw tried.branch (rw i at c.loop-i.invariant.3)

@@ -25,3 +25,7 @@ invariant-loop-i l =
 
 abbrev pub decreases-loop-i : goal.decreases-loop-i
 decreases-loop-i l = l.n - l.i
+
+-- how many leaves of the table are free
+abbrev pub decreases-search : goal.decreases-search
+decreases-search l = zeros l.table.now

@@ -2,7 +2,7 @@
 use mathlib.Core.Path.{◌≡◌, refl, sym, ◌∙◌}
 use Prim.Native.Nat.{◌-◌, ◌*◌, ◌/◌, ◌^◌, ◌≤◌}
 use native.Mathlib.Numerals.{add-one}
-use borrow.Author.Tests.{lt-ltb, le-ltb, eqb-true, not-false}
+use borrow.Author.Tests.{lt-ltb, le-ltb}
 use Rattle.fewest.specs.Costs.{row_costs}
 use Rattle.outcomes.specs.Rows.{row_cell}
 use Rattle.fewest.proofs.Rows.{next_cell, next_rest, row_over}
@@ -37,7 +37,7 @@ pub returns-else-rest-ne0 : goal.returns-else-rest-ne0
 returns-else-rest-ne0 c =
     let a = c.args in
     let r = c.loop-r.r in
-    let none : a.row / 2 ^ (4 * r) ≡ 0 = sym c.loop-r.invariant.1 ∙ eqb-true c.loop-r.rest 0 (c.if-rest-ne0.false) in
+    let none : a.row / 2 ^ (4 * r) ≡ 0 = sym c.loop-r.invariant.1 ∙ c.if-rest-ne0.false in
     rw (lt-ltb _ _ c.if-k-ge-NONE.false, row_over a.row a.k (record { by = a.right.now }) (record { by = a.out.now }) r none 15 c.loop-r.invariant.0) c.loop-r.invariant.2
 
 pub returns-after-loop-r : goal.returns-after-loop-r

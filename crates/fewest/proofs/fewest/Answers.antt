@@ -9,10 +9,10 @@ use Rattle.fewest.proofs.fewest.Goals as goal
 
 pub search-requires : goal.search-requires
 search-requires c =
-    (c.requires.0, c.requires.1, c.requires.2, omega (arith, c.well-formed.1.1.1.1.1.0))
+    (c.requires.0, c.requires.1, c.requires.2, omega arith)
 
 pub returns : goal.returns
 returns c =
     let a = c.args in
-    let e : c.search.result ≡ min a.most (searched a.types.now a.nodes.now a.set a.actions 0 a.t6) = c.search.ensures in
-    rw e (least_lower c.requires.2 (searched_least a.actions a.types.now a.nodes.now a.set c.requires.0 a.t6 (omega (arith, c.well-formed.1.1.1.1.1.0))))
+    let e : c.search.result ≡ min a.most (searched a.types.now a.nodes.now a.set a.actions 0 a.table) = c.search.ensures in
+    rw e (least_lower c.requires.2 (searched_least a.actions a.types.now a.nodes.now a.set c.requires.0 a.table (omega arith)))

@@ -13,14 +13,10 @@ use Rattle.state.proofs.Sides.{left_small, right_small}
 use Rattle.fewest.specs.declared.Costs.{Costs}
 use Rattle.fewest.specs.Costs.{node_costs, final_cost}
 use Rattle.fewest.specs.Search.{wishes}
-use Rattle.fewest.proofs.Folded.{leaf_costs_at, node_costs_at, folded, by_rows}
+use Rattle.fewest.proofs.Folded.{blank, leaf_costs_at, node_costs_at, folded, by_rows}
 use borrow.Author.Rules.{rules}
 use native.Mathlib.Omega.{arith}
 use Rattle.fewest.proofs.fold.Goals as goal
-
--- what stands past the end of an array of costs
-abbrev blank : Costs
-blank = record { by = [] }
 
 pub loop-i-init : goal.loop-i-init
 loop-i-init c =
@@ -35,25 +31,17 @@ pub bounds-table-i : goal.bounds-table-i
 bounds-table-i c = omega (arith, c.requires.0.nodes_few)
 
 -- the parts' numbers lie in the table
-left_bound : (c : tie.After-node-at invariant-loop-i decreases-loop-i) → c.node_at-x.result.left < 63
-left_bound c =
-    rw c.node_at-x.ensures (left_small (omega arith) c.args.types.now c.args.nodes.now c.requires.0 c.loop-i.i (omega arith))
-
-right_bound : (c : tie.After-node-at invariant-loop-i decreases-loop-i) → c.node_at-x.result.right < 63
-right_bound c =
-    rw c.node_at-x.ensures (right_small (omega arith) c.args.types.now c.args.nodes.now c.requires.0 c.loop-i.i (omega arith))
-
 pub offset_bounds-costs-l : goal.offset_bounds-costs-l
-offset_bounds-costs-l c = omega (arith, left_bound c.before)
+offset_bounds-costs-l c = let left : c.node_at-x.result.left < 63 = rw c.node_at-x.ensures (left_small (omega arith) c.args.types.now c.args.nodes.now c.requires.0 c.loop-i.i (omega arith)) in omega arith
 
 pub bounds-costs-l : goal.bounds-costs-l
-bounds-costs-l c = left_bound c.before
+bounds-costs-l c = rw c.node_at-x.ensures (left_small (omega arith) c.args.types.now c.args.nodes.now c.requires.0 c.loop-i.i (omega arith))
 
 pub offset_bounds-costs-r : goal.offset_bounds-costs-r
-offset_bounds-costs-r c = omega (arith, right_bound c.before)
+offset_bounds-costs-r c = let right : c.node_at-x.result.right < 63 = rw c.node_at-x.ensures (right_small (omega arith) c.args.types.now c.args.nodes.now c.requires.0 c.loop-i.i (omega arith)) in omega arith
 
 pub bounds-costs-r : goal.bounds-costs-r
-bounds-costs-r c = right_bound c.before
+bounds-costs-r c = rw c.node_at-x.ensures (right_small (omega arith) c.args.types.now c.args.nodes.now c.requires.0 c.loop-i.i (omega arith))
 
 pub costs_at-v-requires : goal.costs_at-v-requires
 costs_at-v-requires c =

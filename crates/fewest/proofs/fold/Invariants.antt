@@ -13,7 +13,7 @@ use Rattle.state.proofs.Sides.{left_small, right_small}
 use Rattle.fewest.specs.declared.Costs.{Costs}
 use Rattle.fewest.specs.Costs.{node_costs, final_cost}
 use Rattle.fewest.specs.Search.{wishes}
-use Rattle.fewest.proofs.Folded.{leaf_costs_at, node_costs_at, folded, by_rows}
+use Rattle.fewest.proofs.Folded.{blank, leaf_costs_at, node_costs_at, folded, by_rows}
 use borrow.Author.Rules.{rules}
 use native.Mathlib.Omega.{arith}
 use Rattle.fewest.proofs.fold.Given as goal

@@ -12,17 +12,13 @@ use borrow.Author.Rules.{rules}
 use native.Mathlib.Omega.{arith}
 use Rattle.fewest.proofs.is_finished.Goals as goal
 
--- a leaf of the action that has finished
-abbrev done : List ℕ → List ℕ → ℕ → ℕ → Bool
-done b table a n = is_leaf_of b a n && eqb (outcome_at table n) 1
-
 pub loop-i-init : goal.loop-i-init
 loop-i-init c = (refl, omega arith, refl)
 
 pub returns-then-has_finished : goal.returns-then-has_finished
 returns-then-has_finished c =
     let s = c.args in
-    sym (any_true (count s.nodes.now) (done s.nodes.now s.table.now s.a) c.loop-i.i (omega arith) (sym c.has_finished.ensures ∙ c.if-has_finished.true))
+    sym (any_true (count s.nodes.now) (λ n. is_leaf_of s.nodes.now s.a n && eqb (outcome_at s.table.now n) 1) c.loop-i.i (omega arith) (sym c.has_finished.ensures ∙ c.if-has_finished.true))
 
 pub overflow_add-i : goal.overflow_add-i
 overflow_add-i c = omega arith
@@ -33,7 +29,7 @@ loop-i-smaller c = omega arith
 pub loop-i-preserved : goal.loop-i-preserved
 loop-i-preserved c =
     let s = c.args in
-    (c.loop-i.invariant.0, omega arith, any_false c.loop-i.i (done s.nodes.now s.table.now s.a) c.loop-i.invariant.2 (sym c.has_finished.ensures ∙ c.if-has_finished.false))
+    (c.loop-i.invariant.0, omega arith, any_false c.loop-i.i (λ n. is_leaf_of s.nodes.now s.a n && eqb (outcome_at s.table.now n) 1) c.loop-i.invariant.2 (sym c.has_finished.ensures ∙ c.if-has_finished.false))
 
 pub returns : goal.returns
 returns c =

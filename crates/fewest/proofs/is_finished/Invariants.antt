@@ -13,7 +13,7 @@ use native.Mathlib.Omega.{arith}
 use Rattle.fewest.proofs.is_finished.Given as goal
 
 abbrev pub invariant-loop-i : goal.invariant-loop-i
-invariant-loop-i l = (l.n ≡ count l.nodes) × (l.i ≤ l.n) × (any_below l.i (done l.nodes l.table l.a) ≡ false)
+invariant-loop-i l = (l.n ≡ count l.nodes) × (l.i ≤ l.n) × (any_below l.i (λ n. is_leaf_of l.nodes l.a n && eqb (outcome_at l.table n) 1) ≡ false)
 
 abbrev pub decreases-loop-i : goal.decreases-loop-i
 decreases-loop-i l = l.n - l.i

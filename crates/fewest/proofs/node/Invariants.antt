@@ -10,7 +10,7 @@ use Rattle.fewest.proofs.node.Given as goal
 
 abbrev pub invariant-loop-l : goal.invariant-loop-l
 invariant-loop-l l =
-    (l.l ≤ 15) × (record { l.by = l.by } ≡ node_costs (cell_in3 l.rows l.form) (record { l.by = l.left }) (record { l.by = l.right }) l.l)
+    (l.l ≤ 15) × (record { by = l.by } ≡ node_costs (cell_in3 l.rows l.form) (record { by = l.left }) (record { by = l.right }) l.l)
 
 abbrev pub decreases-loop-l : goal.decreases-loop-l
 decreases-loop-l l = 15 - l.l

@@ -4,7 +4,7 @@ use borrow.Author.Rules.{rules}
 use Rattle.judge.proofs.code.Goals as goal
 
 pub returns-in-Violated : goal.returns-in-Violated
-returns-in-Violated c = rw c.j-1.given.1
+returns-in-Violated c = rw c.in-Violated.is
 
 pub returns-in-Refused : goal.returns-in-Refused
-returns-in-Refused c = rw c.j-in-Refused-1.given.1
+returns-in-Refused c = rw c.in-Refused.is

@@ -12,19 +12,19 @@ show-requires c =
     let a = c.args in
     let table = c.table-rows.ensures in
     let left = found_left a.types.now a.pairs.now a.nodes.now a.rule.now a.work.now _ c.requires.0 _ c.fill-root.ensures _ c.finals.ensures
-    _ _ c.set-1.given.1 c.find.ensures in
+    _ _ refl c.in-Found.ensures in
     (c.requires.0, left_small a.types.now a.nodes.now c.requires.0 _ left, table, left)
 
 pub returns-in-Nothing : goal.returns-in-Nothing
 returns-in-Nothing c =
     let a = c.args in
     judged_plan a.types.now a.pairs.now a.nodes.now a.rule.now a.work.now _ c.requires.0 _ c.fill-root.ensures _ c.finals.ensures
-    _ Nothing _ c.enum_told-1.given.1 c.find.ensures refl
+    _ Nothing _ refl c.in-Nothing.ensures refl
 
 pub returns-in-Found : goal.returns-in-Found
 returns-in-Found c =
     let a = c.args in
     let left = found_left a.types.now a.pairs.now a.nodes.now a.rule.now a.work.now _ c.requires.0 _ c.fill-root.ensures _ c.finals.ensures
-    _ _ c.set-1.given.1 c.find.ensures in
+    _ _ refl c.in-Found.ensures in
     judged_plan a.types.now a.pairs.now a.nodes.now a.rule.now a.work.now _ c.requires.0 _ c.fill-root.ensures _ c.finals.ensures
-    _ (Found _) _ c.set-1.given.1 c.find.ensures (record { left = left; shown = c.show.ensures })
+    _ (Found _) _ refl c.in-Found.ensures (record { left = left; shown = c.show.ensures })

@@ -25,6 +25,6 @@ judge-j-requires c =
 pub returns : goal.returns
 returns c =
     let a = c.args in
-    rw (c.clear.ensures.1, c.copy.ensures.1)
-    (judged_file a.file.now a.l c.requires.0 a.work.now c.judge-j.new.1.1.1.1.0 a.shown.now c.judge-j.result.run c.requires.1 c.requires.2 c.judge-j.result.judgement
+    rw (c.clear.ensures.dst_after, c.copy.ensures.dst_after)
+    (judged_file a.file.now a.l c.requires.0 a.work.now c.judge-j.new.work a.shown.now c.judge-j.result.run c.requires.1 c.requires.2 c.judge-j.result.judgement
     (rw (← c.part_of.ensures, ← c.part_of-2.ensures, ← c.part_of-3.ensures, ← c.part_of-4.ensures) c.judge-j.ensures))

@@ -18,13 +18,13 @@ returns-then-record-lt-RECORD c =
 
 pub judge_file-requires : goal.judge_file-requires
 judge_file-requires c =
-    (sym c.read.ensures ∙ c.l-1.given.1, omega arith, omega arith)
+    (sym c.in-Accepted.ensures, omega arith, omega arith)
 
 pub returns-in-Refused : goal.returns-in-Refused
 returns-in-Refused c =
     let a = c.args in
     record {
-      answer = sym (refused_file a.file.now (length a.work.now) (length a.«record».now) (omega arith) (omega arith) _ (sym c.read.ensures ∙ c.n-1.given.1));
+      answer = sym (refused_file a.file.now (length a.work.now) (length a.«record».now) (omega arith) (omega arith) _ (sym c.in-Refused.ensures));
       work_after_lem = refl;
       record_after = refl;
     }

@@ -11,27 +11,17 @@ use native.Mathlib.Omega.{arith}
 use Rattle.plainest.proofs.next_entry.Goals as goal
 
 module _ (types b : List ℕ) (S k : ℕ) (table : List ℕ) (next : ℕ) where
-
   -- one leaf more is passed, or is the next entry's
-
   passed : (n i : ℕ) → i < n → outcome_for types b S k table next i ≡ 0 → entry_from types b S k table next i (n - i) ≡ entry_from types b S k table next (i + 1) (n - (i + 1))
-
   unfolding entry_from
-
   passed n i h e =
-
       let z : n - i ≡ suc (n - (i + 1)) = omega arith in
-
       rw (z, eq-eqb _ _ e, add-one i)
 
   here : (n i : ℕ) → i < n → (outcome_for types b S k table next i ≡ 0 → ⊥) → entry_from types b S k table next i (n - i) ≡ record { leaf = i; outcome = outcome_for types b S k table next i }
-
   unfolding entry_from
-
   here n i h e =
-
       let z : n - i ≡ suc (n - (i + 1)) = omega arith in
-
       rw (z, ne_eqb _ _ e)
 
 pub loop-i-init : goal.loop-i-init
