@@ -20,7 +20,7 @@ returns-then-work-lt-WORK c = record { why = no_work (omega arith); works = refl
 pub returns-in_default : goal.returns-in_default
 returns-in_default c =
     let s = c.args.input.now in
-    record { why = no_class (omega arith) ?; works = refl; answers = refl }
+    record { why = no_class (omega arith) (subst (λ (x : Count). CountOf s x) c.in_default.is c.count_files.ensures); works = refl; answers = refl }
 
 pub overflow_mul-n : goal.overflow_mul-n
 overflow_mul-n c = let k : Counted c.args.input.now c.in-Files.n = c.in-Files.ensures in omega (arith, k.count, k.class.few)
