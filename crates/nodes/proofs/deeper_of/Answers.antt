@@ -1,7 +1,6 @@
 -- `nodes::deeper_of` meets its contract: each return by the test that led there.
 use native.Mathlib.Numerals.{add-one}
 use native.Mathlib.Omega.{arith}
-use borrow.Author.Rules.{rules}
 use borrow.Author.Tests.{eq-eqb, ne_eqb}
 use Rattle.nodes.proofs.deeper_of.Goals as goal
 

@@ -1,19 +1,10 @@
 -- `nodes::forms_ok` meets its contract: each node passed keeps the rule of its form.
-use mathlib.Core.Path.{◌≡◌, refl, sym, ◌∙◌}
-use mathlib.Core.Bool.{Bool}
-use mathlib.Core.List.{List}
-use Prim.Native.Nat.{ℕ, ◌-◌}
+use mathlib.Core.Path.{refl, sym, ◌∙◌}
 use native.Mathlib.Omega.{arith}
-use borrow.Author.Rules.{rules}
-use borrow.Author.Tests.{not-true, not-false}
-use Rattle.blocks.proofs.Bounded.{every_fails, Passed, passed_none, passed_more, passed_all}
-use Rattle.nodes.specs.Nodes.{count, form, left, right}
-use Rattle.nodes.specs.NodeTests.{node_ok}
+use Rattle.blocks.proofs.Bounded.{every_fails, passed_none, passed_more, passed_all}
+use Rattle.nodes.specs.Nodes.{count}
+use Rattle.nodes.proofs.forms_ok.Invariants.{test}
 use Rattle.nodes.proofs.forms_ok.Goals as goal
-
--- what each turn tests
-abbrev test : List ℕ → ℕ → ℕ → Bool
-test b actions i = node_ok actions i (form b i) (left b i) (right b i)
 
 pub loop-i-init : goal.loop-i-init
 loop-i-init c =

@@ -1,20 +1,12 @@
 -- `nodes::named_ok` meets its contract: each node passed is named exactly once.
-use mathlib.Core.Path.{◌≡◌, refl, sym, ◌∙◌}
-use mathlib.Core.Bool.{Bool}
-use mathlib.Core.List.{List}
-use Prim.Native.Nat.{ℕ, ◌-◌}
+use mathlib.Core.Path.{refl, sym, ◌∙◌}
+use Prim.Native.Nat.{◌-◌}
 use native.Mathlib.Omega.{arith}
-use lib.Dec.{eqb}
-use borrow.Author.Rules.{rules}
 use borrow.Author.Tests.{eq-eqb, ne_eqb}
-use Rattle.blocks.proofs.Bounded.{every_fails, Passed, passed_none, passed_more, passed_all}
+use Rattle.blocks.proofs.Bounded.{every_fails, passed_none, passed_more, passed_all}
 use Rattle.nodes.specs.Nodes.{count}
-use Rattle.nodes.specs.NodeTests.{times_named}
+use Rattle.nodes.proofs.named_ok.Invariants.{test}
 use Rattle.nodes.proofs.named_ok.Goals as goal
-
--- what each turn tests
-abbrev test : List ℕ → ℕ → Bool
-test b j = eqb (times_named b j) 1
 
 pub loop-j-init : goal.loop-j-init
 loop-j-init c = let a = c.args in (refl, passed_none (test a.b.now) (count a.b.now - 1))

@@ -1,6 +1,5 @@
 -- `nodes::node_at` meets its contract: the three bytes of node i lie in the list.
 use native.Mathlib.Omega.{arith}
-use borrow.Author.Rules.{rules}
 use Rattle.nodes.proofs.node_at.Goals as goal
 
 pub overflow_mul-at : goal.overflow_mul-at

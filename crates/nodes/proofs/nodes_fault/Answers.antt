@@ -1,7 +1,5 @@
 -- `nodes::nodes_fault` meets its contract: each return by the checks that led there, in their order.
 use mathlib.Core.Path.{sym, ◌∙◌}
-use borrow.Author.Rules.{rules}
-use borrow.Author.Tests.{not-true, not-false}
 use Rattle.nodes.proofs.Forms.{descending}
 use Rattle.nodes.proofs.nodes_fault.Goals as goal
 

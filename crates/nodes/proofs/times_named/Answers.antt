@@ -1,18 +1,13 @@
 -- `nodes::times_named` meets its contract: the sum over the nodes passed, at most two for each, so that it fits.
 use mathlib.Core.Path.{◌≡◌, refl}
-use mathlib.Core.List.{List}
-use Prim.Native.Nat.{ℕ, ◌*◌, ◌-◌, ◌≤◌}
+use Prim.Native.Nat.{◌≤◌}
 use native.Mathlib.Omega.{arith}
-use borrow.Author.Rules.{rules}
 use Rattle.blocks.specs.Bounded.{total}
 use Rattle.blocks.proofs.Bounded.{total_more}
 use Rattle.nodes.specs.Nodes.{count, form, left, right}
-use Rattle.nodes.specs.NodeTests.{naming}
 use Rattle.nodes.proofs.Named.{naming_most}
+use Rattle.nodes.proofs.times_named.Invariants.{term}
 use Rattle.nodes.proofs.times_named.Goals as goal
-
-abbrev term : List ℕ → ℕ → ℕ → ℕ
-term b j i = naming j (form b i) (left b i) (right b i)
 
 pub loop-i-init : goal.loop-i-init
 unfolding total
@@ -21,14 +16,11 @@ loop-i-init c = (refl, omega arith, omega arith, refl)
 pub node_at-requires : goal.node_at-requires
 node_at-requires c = omega arith
 
--- what a turn adds
-added : (c : tie.After-naming-of invariant-loop-i decreases-loop-i) → c.naming_of-times.result ≤ 2
-added c =
-    let a = c.args in
-    rw (c.naming_of-times.ensures, c.node_at.ensures) (naming_most a.j (form a.b.now c.loop-i.i) (left a.b.now c.loop-i.i) (right a.b.now c.loop-i.i))
-
 pub overflow_add-times : goal.overflow_add-times
-overflow_add-times c = omega (arith, added c)
+overflow_add-times c =
+    let a = c.args in
+    let added : c.naming_of-times.result ≤ 2 = rw (c.naming_of-times.ensures, c.node_at.ensures) (naming_most a.j (form a.b.now c.loop-i.i) (left a.b.now c.loop-i.i) (right a.b.now c.loop-i.i)) in
+    omega arith
 
 pub overflow_add-i : goal.overflow_add-i
 overflow_add-i c = omega arith
@@ -39,9 +31,10 @@ loop-i-smaller c = omega arith
 pub loop-i-preserved : goal.loop-i-preserved
 loop-i-preserved c =
     let a = c.args in
+    let added : c.naming_of-times.result ≤ 2 = rw (c.naming_of-times.ensures, c.node_at.ensures) (naming_most a.j (form a.b.now c.loop-i.i) (left a.b.now c.loop-i.i) (right a.b.now c.loop-i.i)) in
     let named = rw c.node_at.ensures at c.naming_of-times.ensures in
     let e = total_more (term a.b.now a.j) c.loop-i.i in
-    (c.loop-i.invariant.0, omega arith, omega (arith, added c), omega (arith, e, named, c.loop-i.invariant.3))
+    (c.loop-i.invariant.0, omega arith, omega arith, omega (arith, e, named, c.loop-i.invariant.3))
 
 pub returns : goal.returns
 returns c =

@@ -1,15 +1,14 @@
 -- `nodes::times_named` meets its contract: the sum over the nodes passed, at most two for each, so that it fits.
-use mathlib.Core.Path.{◌≡◌, refl}
+use mathlib.Core.Path.{◌≡◌}
 use mathlib.Core.List.{List}
 use Prim.Native.Nat.{ℕ, ◌*◌, ◌-◌, ◌≤◌}
-use native.Mathlib.Omega.{arith}
-use borrow.Author.Rules.{rules}
 use Rattle.blocks.specs.Bounded.{total}
-use Rattle.blocks.proofs.Bounded.{total_more}
 use Rattle.nodes.specs.Nodes.{count, form, left, right}
 use Rattle.nodes.specs.NodeTests.{naming}
-use Rattle.nodes.proofs.Named.{naming_most}
 use Rattle.nodes.proofs.times_named.Given as goal
+
+abbrev pub term : List ℕ → ℕ → ℕ → ℕ
+term b j i = naming j (form b i) (left b i) (right b i)
 
 abbrev pub invariant-loop-i : goal.invariant-loop-i
 invariant-loop-i l =
