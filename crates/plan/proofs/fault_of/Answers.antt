@@ -1,5 +1,4 @@
 -- `plan::fault_of` meets its contract: each return by the tests that led there.
-use borrow.Author.Rules.{rules}
 use mathlib.Core.Path.{sym, ◌∙◌}
 use borrow.Author.Tests.{eq-eqb, ne_eqb}
 use Rattle.plan.proofs.fault_of.Goals as goal

@@ -1,5 +1,4 @@
 -- `plan::length_ok` meets its contract: each return by the tests that led there.
-use borrow.Author.Rules.{rules}
 use borrow.Author.Tests.{eq-eqb, le-leb, lt-leb, ne_eqb}
 use Rattle.plan.proofs.length_ok.Goals as goal
 

@@ -3,7 +3,6 @@ use mathlib.Core.Path.{ap}
 use Prim.Native.Nat.{ℕ}
 use native.Mathlib.Nat.{add-sub_cancel_left}
 use lib.ListN.{take, drop}
-use borrow.Author.Rules.{rules}
 use Rattle.plan.proofs.part_of.Goals as goal
 
 pub returns : goal.returns

@@ -1,7 +1,6 @@
 -- `plan::with_pairs` meets its contract: what the block is decides, as the definition goes by it; where its body lies, it lies inside.
-use mathlib.Core.Path.{sym, ◌∙◌}
+use mathlib.Core.Path.{sym}
 use native.Mathlib.Omega.{arith}
-use borrow.Author.Rules.{rules}
 use Rattle.plan.specs.Reading.{end_of}
 use Rattle.plan.proofs.Lying.{lying}
 use Rattle.plan.proofs.with_pairs.Goals as goal
@@ -15,11 +14,11 @@ block_at-requires c = λ _. omega arith
 pub with_nodes-requires : goal.with_nodes-requires
 with_nodes-requires c =
     let a = c.args in
-    (lying a.file.now (end_of a.pairs) 3 63 a.types.len c.nodes-1.given.0.0 (sym c.block_at.ensures ∙ c.nodes-1.given.1)).inside
+    (lying a.file.now (end_of a.pairs) 3 63 a.types.len c.in-Lies.nodes (sym c.in-Lies.ensures)).inside
 
 pub returns-in-Refused : goal.returns-in-Refused
-returns-in-Refused c = rw (← c.block_at.ensures, c.n-1.given.1)
+returns-in-Refused c = rw (← c.in-Refused.ensures)
 
 pub returns-in-Lies : goal.returns-in-Lies
 returns-in-Lies c =
-    rw (← c.block_at.ensures, c.nodes-1.given.1) c.with_nodes.ensures
+    rw (← c.in-Lies.ensures) c.with_nodes.ensures
