@@ -10,7 +10,7 @@ use lib.Dec.{ltb, eqb}
 use borrow.Author.Count.{below_more}
 use borrow.Author.Tests.{ltb-true, ltb-false, eqb-true, eqb-false}
 use Rattle.nodes.specs.Nodes.{count, form, left}
-use Rattle.hours.specs.Windows.{week, window_count, action, opens, closes, WindowFile}
+use Rattle.hours.specs.Windows.{week, window_count, action, WindowFile}
 use Rattle.hours.specs.Hours.{LeafOf, OpenAt, whole_week, window_from, window_of, leaf_window, inside}
 use Rattle.hours.specs.declared.Window.{Window}
 use Rattle.hours.proofs.WindowFrom.{window_at}

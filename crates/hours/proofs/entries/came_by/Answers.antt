@@ -1,5 +1,4 @@
 -- `hours::entries::came_by` meets its contract: each return by the tests that led there.
-use borrow.Author.Rules.{rules}
 use borrow.Author.Tests.{eq-eqb, ne_eqb, le-leb, lt-leb}
 use Rattle.hours.proofs.entries.came_by.Goals as goal
 

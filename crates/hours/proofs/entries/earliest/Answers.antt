@@ -1,6 +1,5 @@
 -- `hours::entries::earliest` meets its contract: each return by the tests that led there. The sums fit: the minute is at most 10,000,000 and a
 -- window opens below 65,536.
-use borrow.Author.Rules.{rules}
 use borrow.Author.Tests.{lt-ltb, le-ltb}
 use Rattle.hours.proofs.entries.earliest.Goals as goal
 

@@ -1,6 +1,5 @@
 -- `hours::entries::fault` meets its contract: each return by the tests that led there.
 use mathlib.Core.Path.{sym, ◌∙◌}
-use borrow.Author.Rules.{rules}
 use borrow.Author.Tests.{lt-ltb, le-ltb}
 use Rattle.hours.proofs.entries.fault.Goals as goal
 

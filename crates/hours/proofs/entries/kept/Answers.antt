@@ -1,5 +1,4 @@
 -- `hours::entries::kept` meets its contract: each return by the test that led there.
-use borrow.Author.Rules.{rules}
 use borrow.Author.Tests.{eq-eqb, ne_eqb}
 use Rattle.hours.proofs.entries.kept.Goals as goal
 

@@ -1,7 +1,6 @@
 -- `hours::entries::leaf_window` meets its contract: each return by the tests that led there. What has no window has the whole week, which opens
 -- at minute 0.
 use native.Mathlib.Omega.{arith}
-use borrow.Author.Rules.{rules}
 use borrow.Author.Tests.{eq-eqb, ne_eqb, lt-ltb, le-ltb}
 use Rattle.hours.specs.Hours.{leaf_window}
 use Rattle.hours.proofs.entries.leaf_window.Goals as goal

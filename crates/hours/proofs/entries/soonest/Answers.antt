@@ -1,10 +1,8 @@
 -- `hours::entries::soonest` meets its contract: the minute so far is that of the entries passed. It fits, since an entry adds at most a week and
 -- the minute of the week at which its window opens.
 use mathlib.Core.Path.{◌≡◌, refl, ◌∙◌}
-use Prim.Native.Nat.{◌*◌, ◌-◌, ◌≤◌}
 use native.Mathlib.Numerals.{add-one}
 use native.Mathlib.Omega.{arith}
-use borrow.Author.Rules.{rules}
 use Rattle.hours.specs.Kept.{soonest}
 use Rattle.hours.proofs.Earliest.{earliest_most}
 use Rattle.hours.proofs.entries.soonest.Goals as goal

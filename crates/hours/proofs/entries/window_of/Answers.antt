@@ -1,12 +1,9 @@
 -- `hours::entries::window_of` meets its contract: the action's window is the one that the windows from the i-th on give, since none passed
 -- names the action.
-use mathlib.Core.Path.{◌≡◌, refl, sym, ◌∙◌}
-use Prim.Native.Nat.{◌-◌, ◌≤◌}
+use mathlib.Core.Path.{refl, sym, ◌∙◌}
 use native.Mathlib.Omega.{arith}
-use borrow.Author.Rules.{rules}
 use borrow.Author.Tests.{eq-eqb, ne_eqb}
 use Rattle.hours.specs.Windows.{window_count}
-use Rattle.hours.specs.Hours.{window_of, window_from}
 use Rattle.hours.proofs.WindowFrom.{from_start, from_turn, from_end}
 use Rattle.hours.proofs.entries.window_of.Goals as goal
 

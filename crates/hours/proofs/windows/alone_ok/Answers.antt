@@ -1,18 +1,10 @@
 -- `hours::windows::alone_ok` meets its contract: window i may stand beside each window passed.
-use mathlib.Core.Path.{◌≡◌, refl, sym, ◌∙◌}
-use mathlib.Core.Bool.{Bool}
-use mathlib.Core.List.{List}
-use Prim.Native.Nat.{ℕ, ◌-◌}
+use mathlib.Core.Path.{refl, sym, ◌∙◌}
 use native.Mathlib.Omega.{arith}
-use borrow.Author.Rules.{rules}
-use borrow.Author.Tests.{not-true, not-false}
-use Rattle.blocks.proofs.Bounded.{every_fails, Passed, passed_none, passed_more, passed_all}
-use Rattle.hours.specs.Windows.{window_count, action, beside_ok}
+use Rattle.blocks.proofs.Bounded.{every_fails, passed_none, passed_more, passed_all}
+use Rattle.hours.specs.Windows.{window_count}
+use Rattle.hours.proofs.windows.alone_ok.Invariants.{test}
 use Rattle.hours.proofs.windows.alone_ok.Goals as goal
-
--- what each turn tests
-abbrev test : List ℕ → ℕ → ℕ → Bool
-test w i j = beside_ok i (action w i) j (action w j)
 
 pub overflow_mul-action : goal.overflow_mul-action
 overflow_mul-action c = omega arith

@@ -1,6 +1,5 @@
 -- `hours::windows::fault` meets its contract: the answer of the test.
 use mathlib.Core.Path.{sym, ◌∙◌}
-use borrow.Author.Rules.{rules}
 use Rattle.hours.proofs.windows.fault.Goals as goal
 
 pub returns-then-windows_ok : goal.returns-then-windows_ok

@@ -1,5 +1,4 @@
 -- `hours::windows::window_ok` meets its contract: each return by the tests that led there.
-use borrow.Author.Rules.{rules}
 use borrow.Author.Tests.{le-ltb, lt-ltb, le-leb, lt-leb}
 use Rattle.hours.proofs.windows.window_ok.Goals as goal
 

@@ -1,18 +1,11 @@
 -- `hours::windows::windows_ok` meets its contract: the length is a multiple of five, and each window passed keeps the rule.
-use mathlib.Core.Path.{◌≡◌, refl, sym, ◌∙◌}
-use mathlib.Core.Bool.{Bool}
-use mathlib.Core.List.{List}
-use Prim.Native.Nat.{ℕ, ◌-◌}
+use mathlib.Core.Path.{refl, sym, ◌∙◌}
 use native.Mathlib.Omega.{arith}
-use borrow.Author.Rules.{rules}
-use borrow.Author.Tests.{not-true, not-false, eq-eqb, ne_eqb}
-use Rattle.blocks.proofs.Bounded.{every_fails, Passed, passed_none, passed_more, passed_all}
-use Rattle.hours.specs.Windows.{window_count, window_ok}
+use borrow.Author.Tests.{eq-eqb, ne_eqb}
+use Rattle.blocks.proofs.Bounded.{every_fails, passed_none, passed_more, passed_all}
+use Rattle.hours.specs.Windows.{window_count}
+use Rattle.hours.proofs.windows.windows_ok.Invariants.{test}
 use Rattle.hours.proofs.windows.windows_ok.Goals as goal
-
--- what each turn tests
-abbrev test : List ℕ → ℕ → ℕ → Bool
-test w actions i = window_ok actions w i
 
 pub returns-then-w-ne0 : goal.returns-then-w-ne0
 returns-then-w-ne0 c = rw (ne_eqb _ _ c.if-w-ne0.true)
