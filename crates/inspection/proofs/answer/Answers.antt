@@ -1,6 +1,5 @@
 -- `inspection::answer` meets its contract: what is told of what was read.
 use mathlib.Core.Path.{◌∙◌}
-use borrow.Author.Rules.{rules}
 use Rattle.inspection.proofs.answer.Goals as goal
 
 pub returns : goal.returns

@@ -2,7 +2,6 @@
 use Prim.Native.Nat.{◌≤◌}
 use native.Mathlib.Omega.{arith}
 use lib.ListN.{length}
-use borrow.Author.Rules.{rules}
 use Rattle.text.specs.Lines.{refused}
 use Rattle.text.proofs.Ends.{numbered_short, put_alone}
 use Rattle.plan.specs.declared.Reading.{Reading}
@@ -17,10 +16,10 @@ short (Refused n) = omega (arith, numbered_short refused n (omega arith))
 
 pub returns-in-Accepted : goal.returns-in-Accepted
 returns-in-Accepted c =
-    rw c.enum_told-1.given.1
+    rw c.in-Accepted.is
     (put_alone _ c.put_line.ensures c.empty.ensures (omega arith))
 
 pub returns-in-Refused : goal.returns-in-Refused
 returns-in-Refused c =
-    rw c.reading-1.given.1
+    rw c.in-Refused.is
     (put_alone _ c.put_numbered.ensures c.empty-in-Refused.ensures (short (Refused _)))
