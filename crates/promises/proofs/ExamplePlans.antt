@@ -144,6 +144,7 @@ finished_or_failed fail = c_fail (f_leaf refl) (c_ok f_done) refl
 pub only_entry : {r : Run} {s : Status} → Complete process r s → r ≡ entry 0 s ∷ []
 only_entry (c_ok (f_leaf h)) = refl
 only_entry (c_fail (f_leaf h) (c_ok f_done) j) = sym j
+only_entry {r = r} (c_fail (f_leaf h) (c_fail {p = p} {s = s} x _ _) j) = elim x [ ]
 
 pub begins_short : (w : Run) → Begins process w → length w ≤ 1
 begins_short w (z, s, c) = omega (arith, length-append w z, ap length (only_entry c))
@@ -240,5 +241,6 @@ three_runs (c_ok (f_choice_left (f_choice_left (f_leaf h)))) = absurd (false≢t
 three_runs (c_ok (f_choice_left (f_choice_right (f_leaf h)))) = skip_1 refl
 three_runs (c_ok (f_choice_right (f_leaf h))) = skip_3 refl
 three_runs (c_fail (f_choice_left (f_choice_left (f_leaf h))) (c_ok f_done) j) = throw_0 (sym j)
+three_runs {r = r} (c_fail (f_choice_left (f_choice_left (f_leaf h))) (c_fail {p = p} {s = s} x _ _) j) = elim x [ ]
 three_runs (c_fail (f_choice_left (f_choice_right (f_leaf h))) c j) = absurd (false≢true h)
 three_runs (c_fail (f_choice_right (f_leaf h)) c j) = absurd (false≢true h)
