@@ -138,7 +138,7 @@ pub record FromHonest (x : Standing) : Type 0 where
   -- next: from what is told to what begins a run, and back
   pub only_next : (n : ℕ) → x.told.next / 2 ^ n % 2 ≡ 1 → n ≡ 0
   pub next : record_of x.job ≡ [] → x.told.next / 2 ^ 0 % 2 ≡ 1
-  -- one-of
+  -- one_of
   pub over : (s : Status) → end_number x.told.end ≡ status_number s → x.told.next ≡ 0
   pub not_over : end_number x.told.end ≡ 0 → (n : ℕ) × (x.told.next / 2 ^ n % 2 ≡ 1)
 
