@@ -8,20 +8,24 @@ use Rattle.state.proofs.may_come.Goals as goal
 
 pub told_by-told-requires : goal.told_by-told-requires
 told_by-told-requires c = search rules
--- the leaf's type permits the outcome, or not
-permitted : (c : tie.After-leaf-permits) → let a = c.args in c.leaf_permits.result ≡ leaf_permits a.types.now a.nodes.now a.leaf a.outcome
-permitted c = rw (← c.wide-n.ensures) c.leaf_permits.ensures
 
 pub overflow_shr-result : goal.overflow_shr-result
 overflow_shr-result c =
-    let e = permits_present c.args.types.now c.args.nodes.now c.args.leaf c.args.outcome (sym (permitted c.before) ∙ c.if-leaf_permits.true) in
+    let a = c.args in
+    let permitted : c.leaf_permits.result ≡ leaf_permits a.types.now a.nodes.now a.leaf a.outcome = rw (← c.wide-n.ensures) c.leaf_permits.ensures in
+    let e = permits_present a.types.now a.nodes.now a.leaf a.outcome (sym permitted ∙ c.if-leaf_permits.true) in
     rw c.wide-n.ensures (omega (arith, c.requires.nodes_few))
 
 pub returns-then-leaf_permits : goal.returns-then-leaf_permits
 unfolding may_come
 returns-then-leaf_permits c =
-    rw (sym (permitted c.before) ∙ c.if-leaf_permits.true, c.told_by-told.ensures, c.wide-n.ensures)
+    let a = c.args in
+    let permitted : c.leaf_permits.result ≡ leaf_permits a.types.now a.nodes.now a.leaf a.outcome = rw (← c.wide-n.ensures) c.leaf_permits.ensures in
+    rw (sym permitted ∙ c.if-leaf_permits.true, c.told_by-told.ensures, c.wide-n.ensures)
 
 pub returns : goal.returns
 unfolding may_come
-returns c = rw (sym (permitted c.before) ∙ c.if-leaf_permits.false)
+returns c =
+    let a = c.args in
+    let permitted : c.leaf_permits.result ≡ leaf_permits a.types.now a.nodes.now a.leaf a.outcome = rw (← c.wide-n.ensures) c.leaf_permits.ensures in
+    rw (sym permitted ∙ c.if-leaf_permits.false)

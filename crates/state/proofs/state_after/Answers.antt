@@ -37,19 +37,19 @@ may_come-requires c = c.requires.0
 pub returns-then-not-may_come : goal.returns-then-not-may_come
 returns-then-not-may_come c =
     let a = c.args in
-    sym (c.loop-i.invariant.2 ∙ replay_step a.types.now a.nodes.now a.entries.now a.taken c.loop-i.table c.loop-i.i (omega arith) ∙ rw (sym c.may_come_lem.ensures ∙ c.if-not-may_come.true))
+    sym (c.loop-i.invariant.2 ∙ replay_step a.types.now a.nodes.now a.entries.now a.taken c.loop-i.table c.loop-i.i (omega arith) ∙ rw (sym c.may_come.ensures ∙ c.if-not-may_come.true))
 
 pub wide-n-requires : goal.wide-n-requires
 wide-n-requires c = search rules
--- an entry that may come is in the table
-came : (c : tie.Else1 invariant-loop-i decreases-loop-i) → let a = c.args in may_come a.types.now a.nodes.now c.loop-i.table (get_or a.entries.now (2 * c.loop-i.i) 0) (get_or a.entries.now (2 * c.loop-i.i + 1) 0) ≡ true
-came c = sym c.may_come_lem.ensures ∙ c.if-not-may_come.false
-small : (c : tie.Else1 invariant-loop-i decreases-loop-i) → get_or c.args.entries.now (2 * c.loop-i.i) 0 < 63
-small c =
-    comes_small c.args.types.now c.args.nodes.now c.loop-i.table (get_or c.args.entries.now (2 * c.loop-i.i) 0) (get_or c.args.entries.now (2 * c.loop-i.i + 1) 0) c.requires.0 (came c)
 
+-- an entry that may come is in the table
 pub bounds-table-n : goal.bounds-table-n
-bounds-table-n c = rw c.wide-n.ensures (small c.before)
+bounds-table-n c =
+    let a = c.args in
+    let came : may_come a.types.now a.nodes.now c.loop-i.table (get_or a.entries.now (2 * c.loop-i.i) 0) (get_or a.entries.now (2 * c.loop-i.i + 1) 0) ≡ true =
+    sym c.may_come.ensures ∙ c.if-not-may_come.false
+    in
+    rw c.wide-n.ensures (comes_small a.types.now a.nodes.now c.loop-i.table (get_or a.entries.now (2 * c.loop-i.i) 0) (get_or a.entries.now (2 * c.loop-i.i + 1) 0) c.requires.0 came)
 
 pub overflow_add-i : goal.overflow_add-i
 overflow_add-i c = omega arith
@@ -59,10 +59,14 @@ loop-i-smaller c = omega arith
 
 pub loop-i-preserved : goal.loop-i-preserved
 loop-i-preserved c =
-    let a = c.args in (
+    let a = c.args in
+    let came : may_come a.types.now a.nodes.now c.loop-i.table (get_or a.entries.now (2 * c.loop-i.i) 0) (get_or a.entries.now (2 * c.loop-i.i + 1) 0) ≡ true =
+    sym c.may_come.ensures ∙ c.if-not-may_come.false
+    in
+    (
       omega arith,
       simp length-set c.loop-i.invariant.1,
-      rw c.wide-n.ensures (c.loop-i.invariant.2 ∙ replay_step a.types.now a.nodes.now a.entries.now a.taken c.loop-i.table c.loop-i.i (omega arith) ∙ rw (came c.before)),
+      rw c.wide-n.ensures (c.loop-i.invariant.2 ∙ replay_step a.types.now a.nodes.now a.entries.now a.taken c.loop-i.table c.loop-i.i (omega arith) ∙ rw came),
     )
 
 pub returns : goal.returns

@@ -15,14 +15,8 @@ use Rattle.runs.specs.declared.Cell.{Cell}
 use Rattle.runs.specs.declared.Cells.{Cells}
 use Rattle.state.specs.State.{leaf_cells, node_cells, told_by}
 use Rattle.state.proofs.Sides.{left_small, right_small}
+use Rattle.state.proofs.told_by.Invariants.{blank}
 use Rattle.state.proofs.told_by.Goals as goal
-
--- what stands past the end of an array of cells
-abbrev blankCell : Cell
-blankCell = record { empty = false; begun = false; ended = Open; next = 0 }
-
-abbrev blank : Cells
-blank = record { forward = blankCell; undo = blankCell; again = blankCell }
 
 pub loop-i-init : goal.loop-i-init
 loop-i-init c =
@@ -36,25 +30,21 @@ pub bounds-table-i : goal.bounds-table-i
 bounds-table-i c = omega arith
 
 -- the parts' numbers lie in the table
-left_bound : (c : tie.After-node-at invariant-loop-i decreases-loop-i) → c.node_at-x.result.left < 63
-left_bound c =
-    rw c.node_at-x.ensures (left_small (omega arith) c.args.types.now c.args.nodes.now c.requires c.loop-i.i (omega arith))
-
-right_bound : (c : tie.After-node-at invariant-loop-i decreases-loop-i) → c.node_at-x.result.right < 63
-right_bound c =
-    rw c.node_at-x.ensures (right_small (omega arith) c.args.types.now c.args.nodes.now c.requires c.loop-i.i (omega arith))
-
 pub offset_bounds-cells-l : goal.offset_bounds-cells-l
-offset_bounds-cells-l c = omega (arith, left_bound c.before)
+offset_bounds-cells-l c =
+    let small : c.node_at-x.result.left < 63 = rw c.node_at-x.ensures (left_small (omega arith) c.args.types.now c.args.nodes.now c.requires c.loop-i.i (omega arith)) in
+    omega (arith, small)
 
 pub bounds-cells-l : goal.bounds-cells-l
-bounds-cells-l c = left_bound c.before
+bounds-cells-l c = rw c.node_at-x.ensures (left_small (omega arith) c.args.types.now c.args.nodes.now c.requires c.loop-i.i (omega arith))
 
 pub offset_bounds-cells-r : goal.offset_bounds-cells-r
-offset_bounds-cells-r c = omega (arith, right_bound c.before)
+offset_bounds-cells-r c =
+    let small : c.node_at-x.result.right < 63 = rw c.node_at-x.ensures (right_small (omega arith) c.args.types.now c.args.nodes.now c.requires c.loop-i.i (omega arith)) in
+    omega (arith, small)
 
 pub bounds-cells-r : goal.bounds-cells-r
-bounds-cells-r c = right_bound c.before
+bounds-cells-r c = rw c.node_at-x.ensures (right_small (omega arith) c.args.types.now c.args.nodes.now c.requires c.loop-i.i (omega arith))
 
 pub offset_bounds-cells-i : goal.offset_bounds-cells-i
 offset_bounds-cells-i c = omega arith

@@ -17,6 +17,13 @@ use Rattle.state.specs.State.{leaf_cells, node_cells, told_by}
 use Rattle.state.proofs.Sides.{left_small, right_small}
 use Rattle.state.proofs.told_by.Given as goal
 
+-- what stands past the end of an array of cells
+abbrev pub blank_cell : Cell
+blank_cell = record { empty = false; begun = false; ended = Open; next = 0 }
+
+abbrev pub blank : Cells
+blank = record { forward = blank_cell; undo = blank_cell; again = blank_cell }
+
 abbrev pub invariant-loop-i : goal.invariant-loop-i
 invariant-loop-i l = (l.n ≡ count l.nodes) × Filled (leaf_cells l.table) (node_cells l.nodes) l.nodes blank 63 l.i l.cells
 
