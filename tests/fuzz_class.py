@@ -1,5 +1,5 @@
 #!/usr/bin/env python3
-"""Runs the built program target/bin/handin on classes made at random and compares it with the model: tests/fuzz_class.py MODEL COUNT SEED
+"""Runs the built program crates/handin/out/handin on classes made at random and compares it with the model: tests/fuzz_class.py MODEL COUNT SEED
 
 MODEL is the folder of the model (plans.py says which). The program must have been built, by `rt check handin`. It is run on files of one to eighteen plans,
 refused, empty, damaged and too long ones among them, some longer than two bytes can tell, and each second time for a table; two processes at a time. All that it
@@ -62,7 +62,7 @@ def main():
         sys.exit(__doc__)
     model, count, seed = model_in(sys.argv[1]), int(sys.argv[2]), int(sys.argv[3])
     root = os.path.dirname(os.path.dirname(os.path.abspath(__file__)))
-    program = os.path.join(root, 'target', 'bin', 'handin')
+    program = os.path.join(root, 'crates', 'handin', 'out', 'handin')
     rng = random.Random(seed)
     met = collections.Counter()
     with ThreadPoolExecutor(2) as pool:

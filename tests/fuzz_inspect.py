@@ -1,5 +1,5 @@
 #!/usr/bin/env python3
-"""Runs the built program target/bin/inspect on random and damaged files and compares it with the model: tests/fuzz_inspect.py MODEL COUNT SEED [one]
+"""Runs the built program crates/inspect/out/inspect on random and damaged files and compares it with the model: tests/fuzz_inspect.py MODEL COUNT SEED [one]
 
 MODEL is the folder of the model (plans.py says which). The program must have been built, by `rt check inspect`. One process is run for each
 file, two at a time. Compensations are nested one, two and three deep, of which three is too deep. The script ends with status 1 at the first file on which
@@ -38,7 +38,7 @@ def said(program, file):
 def main():
     model, count, seed, undos = asked(__doc__)
     root = os.path.dirname(os.path.dirname(os.path.abspath(__file__)))
-    program = os.path.join(root, 'target', 'bin', 'inspect')
+    program = os.path.join(root, 'crates', 'inspect', 'out', 'inspect')
     rng = random.Random(seed)
     met = [0] * 10
     with ThreadPoolExecutor(2) as pool:

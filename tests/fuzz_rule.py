@@ -1,5 +1,5 @@
 #!/usr/bin/env python3
-"""Runs the built program target/bin/postfix on texts made at random and compares it with the model: tests/fuzz_rule.py MODEL COUNT SEED
+"""Runs the built program crates/postfix/out/postfix on texts made at random and compares it with the model: tests/fuzz_rule.py MODEL COUNT SEED
 
 MODEL is the folder of the model (plans.py says which). The program must have been built, by `rt check postfix`. One process is run for each text, two
 at a time. What is due is the model's, and that of the reader in typed.py, which has to be the same. Before these come texts of as many bytes as the program
@@ -80,7 +80,7 @@ def main():
         sys.exit(__doc__)
     cells, count, seed = model_in(sys.argv[1]), int(sys.argv[2]), int(sys.argv[3])
     root = os.path.dirname(os.path.dirname(os.path.abspath(__file__)))
-    program = os.path.join(root, 'target', 'bin', 'postfix')
+    program = os.path.join(root, 'crates', 'postfix', 'out', 'postfix')
     print(f'{check_long(cells, program)} long texts agree')
     rng = random.Random(seed)
     met = collections.Counter()

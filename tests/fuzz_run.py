@@ -1,5 +1,5 @@
 #!/usr/bin/env python3
-"""Runs the built program target/bin/run on random plans and sessions and compares it with the model: tests/fuzz_run.py MODEL COUNT SEED [one]
+"""Runs the built program crates/run/out/run on random plans and sessions and compares it with the model: tests/fuzz_run.py MODEL COUNT SEED [one]
 
 MODEL is the folder of the model (plans.py says which). The program must have been built, by `rt check run`. One process is run for each session.
 About half of all sessions have a window file, one of ten of these a broken one. Every other session goes line by line, each line sent once the answer to
@@ -172,7 +172,7 @@ def session(path, cells, rng, folder, undos):
 def main():
     cells, count, seed, undos = asked(__doc__)
     root = os.path.dirname(os.path.dirname(os.path.abspath(__file__)))
-    path = os.path.join(root, 'target', 'bin', 'run')
+    path = os.path.join(root, 'crates', 'run', 'out', 'run')
     rng, sessions, lines = random.Random(seed), [0, 0], [0, 0]
     with tempfile.TemporaryDirectory() as folder:
         for _ in range(count):

@@ -1,5 +1,5 @@
 #!/usr/bin/env python3
-"""Runs the built programs target/bin/verdict and run on random plans and compares them with the model: tests/fuzz_verdict.py MODEL COUNT SEED [one]
+"""Runs the built programs crates/verdict/out/verdict and run on random plans and compares them with the model: tests/fuzz_verdict.py MODEL COUNT SEED [one]
 
 MODEL is the folder of the model (plans.py says which). The programs must have been built, by `rt check verdict run`. All that `verdict` writes is what the
 model has, the run that is shown included: that of a small plan is found among all of its runs, that of a large one by the model's search (shown.py). Then the
@@ -71,7 +71,7 @@ def has_few_runs(cells, file):
 def main():
     cells, count, seed, undos = asked(__doc__)
     root = os.path.dirname(os.path.dirname(os.path.abspath(__file__)))
-    programs = {name: os.path.join(root, 'target', 'bin', name) for name in ('verdict', 'run')}
+    programs = {name: os.path.join(root, 'crates', name, 'out', name) for name in ('verdict', 'run')}
     rng = random.Random(seed)
     met, entries, small = collections.Counter(), 0, 0
     with ThreadPoolExecutor(2) as pool:
