@@ -1,3 +1,2 @@
 // The entries of runs without their order. There is no code here: the theorem is in specs/Reorder.antt.
 #![tactic(auto)]
-
