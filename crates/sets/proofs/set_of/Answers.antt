@@ -8,19 +8,17 @@ use Rattle.family.proofs.Bits.{one_shifted}
 use Rattle.nodes.specs.Nodes.{left}
 use Rattle.sets.proofs.set_of.Goals as goal
 
--- the action's number is below ten
-few : (c : goal.overflow_shl-result) → c.node_at-x.result.left < 10
-few c =
-    let e = c.node_at-x.ensures in
-    rw e (c.requires.1 (rw e at c.if-f-eq0.true))
-
 pub overflow_shl-result : goal.overflow_shl-result
-overflow_shl-result c = omega (arith, few c)
+overflow_shl-result c =
+    let e = c.node_at-x.ensures in
+    let few : c.node_at-x.result.left < 10 = rw e (c.requires.1 (rw e at c.if-f-eq0.true)) in
+    omega arith
 
 pub returns-then-f-eq0 : goal.returns-then-f-eq0
 returns-then-f-eq0 c =
     let e = c.node_at-x.ensures in
-    one_shifted c.node_at-x.result.left (omega (arith, few c)) ∙ rw (e, eq-eqb _ _ (rw e at c.if-f-eq0.true))
+    let few : c.node_at-x.result.left < 10 = rw e (c.requires.1 (rw e at c.if-f-eq0.true)) in
+    one_shifted c.node_at-x.result.left (omega arith) ∙ rw (e, eq-eqb _ _ (rw e at c.if-f-eq0.true))
 
 pub returns : goal.returns
 returns c = rw (ne_eqb _ _ (rw c.node_at-x.ensures at c.if-f-eq0.false))
