@@ -1,14 +1,14 @@
 -- The areas of a job: bytes and then zeros. Such an area is known by its first bytes.
-use mathlib.Core.Path.{◌≡◌, refl, sym, ◌∙◌}
+use mathlib.Core.Path.{◌≡◌, sym, ◌∙◌}
 use mathlib.Core.Bool.{Bool, true, false, cond}
 use mathlib.Core.List.{List, ◌++◌}
 use mathlib.Core.Logic.{◌⊎◌, inl, inr}
-use Prim.Native.Nat.{ℕ, zero, suc, ◌+◌, ◌-◌, ◌≤◌, ◌<◌}
+use Prim.Native.Nat.{ℕ, ◌+◌, ◌-◌, ◌≤◌, ◌<◌}
 use native.Mathlib.Omega.{arith}
 use lib.Dec.{ltb, eqb}
-use lib.ListN.{length, get_or, take, replicate, length-append, length-replicate, length-take, get_or-append}
+use lib.ListN.{length, get_or, take, replicate, length-append, length-replicate, get_or-append}
 use lib.Seq.{ext_get_or, get_or-append-add, get_or-take, length-take-le}
-use borrow.Author.Tests.{ltb-true, ltb-false, lt-ltb, le-ltb, eqb-true, eq-eqb}
+use borrow.Author.Tests.{ltb-true, ltb-false, le-ltb, eqb-true}
 use Rattle.blocks.proofs.Bounded.{decide, every_at, every_all}
 use Rattle.job.specs.Job.{zeros_from}
 use Rattle.job.proofs.Outcomes.{zeros_at}

@@ -1,13 +1,12 @@
 -- A record that replays is a beginning, with the table that stands for it; and one entry more replays where it may come.
-use mathlib.Core.Path.{◌≡◌, refl, sym, ap, subst, ◌∙◌}
-use mathlib.Core.Bool.{Bool, true, false, cond, true≢false}
+use mathlib.Core.Path.{◌≡◌, refl, sym, ap, subst}
+use mathlib.Core.Bool.{true, false, cond, true≢false}
 use mathlib.Core.List.{List, [], ◌∷◌, ◌++◌, map, append_assoc, append-nil}
 use mathlib.Core.Logic.{◌⊎◌, inl, inr}
-use Prim.Native.Nat.{ℕ, ◌<◌}
+use Prim.Native.Nat.{ℕ}
 use lib.ListN.{set}
 use Rattle.blocks.proofs.Bounded.{decide}
 use Rattle.process.specs.Process.{Status, ok, fail, Process, entry, Run}
-use Rattle.process.specs.Process as process
 use Rattle.plan.specs.PlanFile.{Runnable}
 use Rattle.plan.specs.Tree.{process_of}
 use Rattle.runs.specs.Beginnings.{Begins}

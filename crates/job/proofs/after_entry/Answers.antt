@@ -1,6 +1,5 @@
 -- `job::after_entry` meets its contract.
 use mathlib.Core.Path.{◌≡◌}
-use borrow.Author.Rules.{rules}
 use lib.ListN.{set}
 use Rattle.state.specs.State.{told_by}
 use Rattle.job.proofs.after_entry.Goals as goal

@@ -1,5 +1,4 @@
 -- `job::end_of` meets its contract, row by row.
-use borrow.Author.Rules.{rules}
 use Rattle.job.proofs.end_of.Goals as goal
 
 pub returns-in-Succeeded : goal.returns-in-Succeeded

@@ -1,6 +1,5 @@
 -- `job::fresh_job` meets its contract: the file's bytes are copied into zeros.
 use mathlib.Core.Path.{◌∙◌}
-use borrow.Author.Rules.{rules}
 use Rattle.plan.specs.PlanFile.{most_bytes}
 use Rattle.job.proofs.Bytes.{padded}
 use Rattle.job.proofs.fresh_job.Goals as goal

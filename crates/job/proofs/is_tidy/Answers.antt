@@ -1,5 +1,4 @@
 -- `job::is_tidy` meets its contract: each return by the tests that led there.
-use borrow.Author.Rules.{rules}
 use mathlib.Core.Path.{sym, ◌∙◌}
 use borrow.Author.Tests.{le-leb, le-ltb, lt-leb, lt-ltb}
 use Rattle.job.proofs.is_tidy.Goals as goal

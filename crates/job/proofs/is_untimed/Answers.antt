@@ -1,5 +1,4 @@
 -- `job::is_untimed` meets its contract: each return by the tests that led there.
-use borrow.Author.Rules.{rules}
 use borrow.Author.Tests.{eq-eqb, ne_eqb}
 use Rattle.job.proofs.is_untimed.Goals as goal
 

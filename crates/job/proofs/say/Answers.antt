@@ -1,5 +1,4 @@
 -- `job::say` meets its contract.
-use borrow.Author.Rules.{rules}
 use Rattle.job.proofs.say.Goals as goal
 
 pub returns : goal.returns

@@ -1,5 +1,4 @@
 -- `job::start_with` meets its contract: what running rests on holds of an accepted file's bodies.
-use borrow.Author.Rules.{rules}
 use Rattle.plan.proofs.Demand1.{demand1, runnable}
 use Rattle.plan.proofs.Inside.{types_inside, nodes_inside}
 use Rattle.job.proofs.start_with.Goals as goal

@@ -1,6 +1,5 @@
 -- `job::take_in` meets its contract: what the plan file reads as decides.
 use mathlib.Core.Path.{◌≡◌, sym, ◌∙◌}
-use borrow.Author.Rules.{rules}
 use Rattle.plan.specs.Reading.{read_of}
 use Rattle.job.specs.Job.{plan_of}
 use Rattle.job.proofs.take_in.Goals as goal

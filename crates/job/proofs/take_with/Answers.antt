@@ -2,7 +2,6 @@
 use mathlib.Core.Path.{sym, ◌∙◌}
 use borrow.Author.Tests.{not-true, not-false}
 use Rattle.state.proofs.May.{comes_small}
-use borrow.Author.Rules.{rules}
 use Rattle.job.proofs.take_with.Goals as goal
 
 pub returns-then-not-state : goal.returns-then-not-state

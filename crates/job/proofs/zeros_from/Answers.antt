@@ -1,15 +1,8 @@
 -- `job::zeros_from` meets its contract: each byte passed is 0 where it stands past the place.
 use mathlib.Core.Path.{sym, ◌∙◌}
-use mathlib.Core.Bool.{Bool}
-use mathlib.Core.List.{List}
-use Prim.Native.Nat.{ℕ, ◌-◌}
 use native.Mathlib.Omega.{arith}
-use lib.ListN.{length, get_or}
-use borrow.Author.Rules.{rules}
-use borrow.Author.Tests.{not-true, not-false}
-use Rattle.blocks.proofs.Bounded.{every_fails, Passed, passed_none, passed_more, passed_all}
-use mathlib.Core.Bool.{true, cond}
-use lib.Dec.{ltb, eqb}
+use lib.ListN.{length}
+use Rattle.blocks.proofs.Bounded.{every_fails, passed_none, passed_more, passed_all}
 use Rattle.job.proofs.zeros_from.Invariants.{test}
 use Rattle.job.proofs.zeros_from.Goals as goal
 

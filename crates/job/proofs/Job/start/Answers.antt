@@ -1,6 +1,5 @@
 -- `job::Job::start` meets its contract: what the file reads as decides.
 use mathlib.Core.Path.{sym, ◌∙◌}
-use borrow.Author.Rules.{rules}
 use Rattle.job.proofs.Job.start.Goals as goal
 
 pub start_with-requires : goal.start_with-requires

@@ -1,6 +1,5 @@
 -- `job::Job::start_timed` meets its contract: what the plan file reads as decides.
 use mathlib.Core.Path.{sym, ◌∙◌}
-use borrow.Author.Rules.{rules}
 use Rattle.job.proofs.Job.start_timed.Goals as goal
 
 pub start_with-requires : goal.start_with-requires

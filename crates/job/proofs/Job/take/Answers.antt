@@ -5,10 +5,8 @@ use native.Mathlib.Omega.{arith}
 use lib.ListN.{length}
 use lib.Seq.{length-take-le}
 use borrow.Author.Rules.{rules}
-use borrow.Author.Tests.{not-true, not-false}
 use Rattle.plan.specs.PlanFile.{most_bytes}
 use Rattle.job.specs.Job.{tidy, untimed}
-use Rattle.job.specs.Offer.{Sized}
 use Rattle.job.proofs.Tidy.{tidy_says}
 use Rattle.job.proofs.Job.take.Goals as goal
 

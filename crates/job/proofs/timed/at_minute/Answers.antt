@@ -1,5 +1,4 @@
 -- `job::timed::at_minute` meets its contract, row by row.
-use borrow.Author.Rules.{rules}
 use Rattle.job.proofs.timed.at_minute.Goals as goal
 
 pub returns-in-Refused : goal.returns-in-Refused

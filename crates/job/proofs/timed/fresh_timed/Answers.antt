@@ -1,6 +1,5 @@
 -- `job::timed::fresh_timed` meets its contract: the window file's bytes are copied into zeros.
 use mathlib.Core.Path.{◌∙◌}
-use borrow.Author.Rules.{rules}
 use Rattle.job.specs.Job.{most_windows}
 use Rattle.job.proofs.Bytes.{padded}
 use Rattle.job.proofs.timed.fresh_timed.Goals as goal

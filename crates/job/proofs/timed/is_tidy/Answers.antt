@@ -1,6 +1,5 @@
 -- `job::timed::is_tidy` meets its contract: each return by the tests that led there.
 use mathlib.Core.Path.{sym, ◌∙◌}
-use borrow.Author.Rules.{rules}
 use borrow.Author.Tests.{le-leb, lt-leb}
 use Rattle.job.proofs.timed.is_tidy.Goals as goal
 

@@ -1,6 +1,5 @@
 -- `job::timed::start_with` meets its contract: a window file that is accepted has room in the job, since it names no action twice.
 use mathlib.Core.Path.{sym, ◌∙◌}
-use borrow.Author.Rules.{rules}
 use borrow.Author.Tests.{ne_eqb}
 use Rattle.hours.proofs.ReadsWindows.{reads_windows}
 use Rattle.plan.proofs.Demand1.{demand1}

@@ -1,6 +1,5 @@
 -- `job::timed::take_in` meets its contract: what the plan file reads as decides.
 use mathlib.Core.Path.{◌≡◌, sym, ◌∙◌}
-use borrow.Author.Rules.{rules}
 use Rattle.plan.specs.Reading.{read_of}
 use Rattle.job.specs.Job.{plan_of}
 use Rattle.job.proofs.timed.take_in.Goals as goal

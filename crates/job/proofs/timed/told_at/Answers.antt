@@ -1,5 +1,4 @@
 -- `job::timed::told_at` meets its contract: each return by whether there is a fault.
-use borrow.Author.Rules.{rules}
 use borrow.Author.Tests.{eq-eqb, ne_eqb}
 use Rattle.job.proofs.timed.told_at.Goals as goal
 
