@@ -1,5 +1,4 @@
 -- `state::cell_of` meets its contract: each return by the test that led there.
-use borrow.Author.Rules.{rules}
 use borrow.Author.Tests.{le-ltb, lt-ltb}
 use Rattle.state.proofs.cell_of.Goals as goal
 

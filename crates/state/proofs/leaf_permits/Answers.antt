@@ -1,5 +1,4 @@
 -- `state::leaf_permits` meets its contract: each return by the tests that led there.
-use borrow.Author.Rules.{rules}
 use borrow.Author.Tests.{le-ltb, lt-ltb}
 use Rattle.state.specs.State.{leaf_permits}
 use Rattle.state.proofs.leaf_permits.Goals as goal

@@ -1,5 +1,4 @@
 -- `state::leaf_type` meets its contract: each return by the test that led there; an action of the plan has a type.
-use borrow.Author.Rules.{rules}
 use borrow.Author.Tests.{eq-eqb, ne_eqb}
 use Rattle.state.proofs.leaf_type.Goals as goal
 

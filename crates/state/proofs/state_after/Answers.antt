@@ -1,14 +1,13 @@
 -- `state::state_after` meets its contract: what is left of the record from the table so far is what the whole is from the start.
 use mathlib.Core.Path.{◌≡◌, refl, sym, ◌∙◌}
 use mathlib.Core.Bool.{true}
-use Prim.Native.Nat.{◌+◌, ◌-◌, ◌*◌, ◌≤◌, ◌<◌}
+use Prim.Native.Nat.{◌+◌, ◌*◌}
 use native.Mathlib.Omega.{arith}
-use lib.ListN.{length, get_or, length-set}
+use lib.ListN.{get_or, length-set}
 use borrow.Author.Rules.{rules}
-use borrow.Author.Tests.{not-true, not-false}
-use Rattle.state.specs.State.{may_come, state_after}
+use Rattle.state.specs.State.{may_come}
 use Rattle.state.proofs.May.{comes_small}
-use Rattle.state.proofs.Replays.{from, replay_start, replay_step, replay_end}
+use Rattle.state.proofs.Replays.{replay_start, replay_step, replay_end}
 use Rattle.state.proofs.state_after.Goals as goal
 
 pub loop-i-init : goal.loop-i-init
@@ -62,8 +61,7 @@ loop-i-preserved c =
     let a = c.args in
     let came : may_come a.types.now a.nodes.now c.loop-i.table (get_or a.entries.now (2 * c.loop-i.i) 0) (get_or a.entries.now (2 * c.loop-i.i + 1) 0) ≡ true =
     sym c.may_come.ensures ∙ c.if-not-may_come.false
-    in
-    (
+    in (
       omega arith,
       simp length-set c.loop-i.invariant.1,
       rw c.wide-n.ensures (c.loop-i.invariant.2 ∙ replay_step a.types.now a.nodes.now a.entries.now a.taken c.loop-i.table c.loop-i.i (omega arith) ∙ rw came),

@@ -1,14 +1,9 @@
 -- `state::state_after` meets its contract: what is left of the record from the table so far is what the whole is from the start.
-use mathlib.Core.Path.{◌≡◌, refl, sym, ◌∙◌}
-use mathlib.Core.Bool.{true}
-use Prim.Native.Nat.{◌+◌, ◌-◌, ◌*◌, ◌≤◌, ◌<◌}
-use native.Mathlib.Omega.{arith}
-use lib.ListN.{length, get_or, length-set}
-use borrow.Author.Rules.{rules}
-use borrow.Author.Tests.{not-true, not-false}
-use Rattle.state.specs.State.{may_come, state_after}
-use Rattle.state.proofs.May.{comes_small}
-use Rattle.state.proofs.Replays.{from, replay_start, replay_step, replay_end}
+use mathlib.Core.Path.{◌≡◌}
+use Prim.Native.Nat.{◌-◌, ◌≤◌}
+use lib.ListN.{length}
+use Rattle.state.specs.State.{state_after}
+use Rattle.state.proofs.Replays.{from}
 use Rattle.state.proofs.state_after.Given as goal
 
 abbrev pub invariant-loop-i : goal.invariant-loop-i

@@ -1,20 +1,13 @@
 -- `state::told_by` meets its contract: the cells of the nodes passed are filled in, each part of a node before it.
-use mathlib.Core.Path.{◌≡◌, refl, ap, ◌∙◌}
-use Prim.Native.Nat.{◌-◌, ◌/◌, ◌<◌}
-use native.Mathlib.Omega.{arith}
-use mathlib.Core.Bool.{false, cond}
-use lib.Dec.{ltb}
-use lib.ListN.{length, get_or}
-use borrow.Author.Rules.{rules}
-use Rattle.nodes.specs.Nodes.{count, form, left, right}
-use Rattle.nodes.proofs.Filled.{Filled, filled_none, filled_more}
-use Rattle.plan.proofs.Tree.{parts_smaller}
-use Rattle.runs.specs.ThreeLevels.{told_three}
+use mathlib.Core.Path.{◌≡◌}
+use Prim.Native.Nat.{◌-◌}
+use mathlib.Core.Bool.{false}
+use Rattle.nodes.specs.Nodes.{count}
+use Rattle.nodes.proofs.Filled.{Filled}
 use Rattle.runs.specs.declared.Ended.TheVariants.{Open}
 use Rattle.runs.specs.declared.Cell.{Cell}
 use Rattle.runs.specs.declared.Cells.{Cells}
-use Rattle.state.specs.State.{leaf_cells, node_cells, told_by}
-use Rattle.state.proofs.Sides.{left_small, right_small}
+use Rattle.state.specs.State.{leaf_cells, node_cells}
 use Rattle.state.proofs.told_by.Given as goal
 
 -- what stands past the end of an array of cells
