@@ -57,9 +57,9 @@ module _ (b : List ℕ) where
   half some down once =
       let n = count b in
       let m : ℕ = count b - 1 in
-      let by-named : total m (λ j. times_named b j) ≡ m = total_ones (λ j. times_named b j) m (λ j l. eqb-true _ _ (every_at (λ j. eqb (times_named b j) 1) m j ((named_say b).1 once) l)) in
-      let by-naming : total n (λ i. total m (λ j. naming j (form b i) (left b i) (right b i))) ≡ total n (λ i. composite b i + composite b i) = total_same _ _ n (λ i l. names_two m (form b i) (left b i) (right b i) (λ f. let (x, y) = down i l f in (omega arith, omega arith))) in
-      let e : m ≡ place b n + place b n = sym by-named ∙ total_exchanged (λ i j. naming j (form b i) (left b i) (right b i)) n m ∙ by-naming ∙ total_sum (composite b) (composite b) n in
+      let by_named : total m (λ j. times_named b j) ≡ m = total_ones (λ j. times_named b j) m (λ j l. eqb-true _ _ (every_at (λ j. eqb (times_named b j) 1) m j ((named_say b).1 once) l)) in
+      let by_naming : total n (λ i. total m (λ j. naming j (form b i) (left b i) (right b i))) ≡ total n (λ i. composite b i + composite b i) = total_same _ _ n (λ i l. names_two m (form b i) (left b i) (right b i) (λ f. let (x, y) = down i l f in (omega arith, omega arith))) in
+      let e : m ≡ place b n + place b n = sym by_named ∙ total_exchanged (λ i j. naming j (form b i) (left b i) (right b i)) n m ∙ by_naming ∙ total_sum (composite b) (composite b) n in
       omega arith
 
 module _ {actions : ℕ} (types b : List ℕ) (r : RunnableWithin actions types b) where

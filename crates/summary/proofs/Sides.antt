@@ -53,18 +53,18 @@ pub record LeftAdded (cells : ℕ → ℕ → ℕ) (code : ℕ) (a b : Summary) 
   pub complete : (right x y : ℕ) → cells left right ≡ code → In (family_of a left) x → In (family_of b right) y → In r (bit_or x y)
 
 module _ (cells : ℕ → ℕ → ℕ) (code : ℕ) (a b : Summary) (left : ℕ) (u : List ℕ) where
-  module _ (g v j : List ℕ) (right-sets : Gathered (cells left) code b g) (unions : Product (family_of a left) g v) (joined : Joined u v j) where
+  module _ (g v j : List ℕ) (right_sets : Gathered (cells left) code b g) (unions : Product (family_of a left) g v) (joined : Joined u v j) where
     from_unions : (t : ℕ) → In v t → FromCell cells a b code t
     from_unions t on =
         let w = unions.sound t on in
-        let r = right-sets.sound w.y w.in_right in
+        let r = right_sets.sound w.y w.in_right in
         record { left = left; right = r.right; is_cell = r.is_cell; union = record { x = w.x; y = w.y; in_left = w.in_left; in_right = r.has; is = w.is } }
 
     pub left_added : LeftAdded cells code a b left u j
     left_added = record {
       sound = λ t on. elim (joined.sound t on) [ inl old ↦ inl old | inr new ↦ inr (from_unions t new) ];
       keeps = joined.left;
-      complete = λ right x y c i k. joined.right (bit_or x y) (unions.complete x y i (right-sets.complete right y c k));
+      complete = λ right x y c i k. joined.right (bit_or x y) (unions.complete x y i (right_sets.complete right y c k));
     }
 
   -- a left code that is not marked has no part in it

@@ -1,7 +1,6 @@
 -- `area::code_at` meets its contract: the constant list of the code is that of the definition, and each of its codes is below 15.
 use mathlib.Core.Path.{refl}
 use lib.Dec.{ltb, ltb→lt}
-use borrow.Author.Rules.{rules}
 use Rattle.family.proofs.Numbers.{at_number}
 use Rattle.area.specs.Area.{code_at}
 use Rattle.area.proofs.code_at.Goals as goal

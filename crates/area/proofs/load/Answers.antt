@@ -1,6 +1,5 @@
 -- `area::load` meets its contract: eleven families, where the area has room for them.
 use Rattle.area.proofs.Areas.{no_room, room}
-use borrow.Author.Rules.{rules}
 use Rattle.area.proofs.load.Goals as goal
 
 pub returns-then-area-i : goal.returns-then-area-i

@@ -1,11 +1,10 @@
 -- `area::load_family` meets its contract: the words passed are read.
 use mathlib.Core.Path.{◌≡◌}
-use Prim.Native.Nat.{ℕ, ◌+◌, ◌-◌, ◌*◌, ◌≤◌, ◌<◌}
-use lib.ListN.{length, length-set, get_or}
+use Prim.Native.Nat.{◌+◌, ◌*◌}
+use lib.ListN.{length-set}
 use Rattle.family.proofs.Words.{filled_more}
 use Rattle.area.specs.Area.{word_at}
 use Rattle.area.proofs.Areas.{words_equal}
-use borrow.Author.Rules.{rules}
 use native.Mathlib.Omega.{arith}
 use Rattle.area.proofs.load_family.Goals as goal
 

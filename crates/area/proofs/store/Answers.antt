@@ -2,11 +2,9 @@
 use mathlib.Core.Path.{◌≡◌, refl, sym, subst}
 use mathlib.Core.Bool.{true≢false, false≢true}
 use borrow.Author.Tests.{le-leb}
-use Prim.Native.Nat.{ℕ, ◌+◌, ◌-◌, ◌*◌, ◌≤◌}
-use lib.ListN.{length}
+use Prim.Native.Nat.{ℕ, ◌*◌}
 use Rattle.area.specs.Area.{summary_size}
 use Rattle.area.proofs.Areas.{no_room, Storing, storing_none, storing_more, stored}
-use borrow.Author.Rules.{rules}
 use native.Mathlib.Omega.{arith}
 use Rattle.area.proofs.store.Goals as goal
 

@@ -1,13 +1,8 @@
 -- `area::store` meets its contract: the families of the codes passed are written (`Storing`).
-use mathlib.Core.Path.{◌≡◌, refl, sym, subst}
-use mathlib.Core.Bool.{true≢false, false≢true}
-use borrow.Author.Tests.{le-leb}
-use Prim.Native.Nat.{ℕ, ◌+◌, ◌-◌, ◌*◌, ◌≤◌}
+use Prim.Native.Nat.{◌+◌, ◌-◌, ◌*◌, ◌≤◌}
 use lib.ListN.{length}
 use Rattle.area.specs.Area.{summary_size}
-use Rattle.area.proofs.Areas.{no_room, Storing, storing_none, storing_more, stored}
-use borrow.Author.Rules.{rules}
-use native.Mathlib.Omega.{arith}
+use Rattle.area.proofs.Areas.{Storing}
 use Rattle.area.proofs.store.Given as goal
 
 abbrev pub invariant-loop-k : goal.invariant-loop-k

@@ -1,9 +1,6 @@
 -- `area::store_family` meets its contract: the words passed are written (`Writing`).
-use mathlib.Core.Path.{◌≡◌, subst}
-use Prim.Native.Nat.{ℕ, ◌-◌, ◌≤◌}
-use Rattle.area.proofs.Areas.{Writing, writing_none, writing_more, written}
-use borrow.Author.Rules.{rules}
-use native.Mathlib.Omega.{arith}
+use Prim.Native.Nat.{◌-◌, ◌≤◌}
+use Rattle.area.proofs.Areas.{Writing}
 use Rattle.area.proofs.store_family.Given as goal
 
 abbrev pub invariant-loop-i : goal.invariant-loop-i

@@ -1,5 +1,4 @@
 -- `least::finals` meets its contract.
-use borrow.Author.Rules.{rules}
 use Rattle.least.proofs.Whole.{finals_joined}
 use Rattle.least.proofs.finals.Goals as goal
 

@@ -1,12 +1,11 @@
 -- `least::find` meets its contract: the sets of the words passed satisfy the rule.
-use Prim.Native.Nat.{◌-◌, ◌*◌, ◌^◌, ◌≤◌, ◌<◌}
+use Prim.Native.Nat.{◌^◌, ◌<◌}
 use lib.Count.{count_trailing_zeros, trailing_le}
 use borrow.Author.Rules.{rules}
 use native.Mathlib.Omega.{arith}
 use Rattle.family.proofs.Lowest.{lowest}
 use Rattle.family.proofs.Words.{in_range}
-use Rattle.undos.specs.Masks.{Masks}
-use Rattle.least.proofs.Scan.{Passed, passed_none, word_passed, word_found}
+use Rattle.least.proofs.Scan.{passed_none, word_passed, word_found}
 use Rattle.least.proofs.find.Goals as goal
 
 pub loop-w-init : goal.loop-w-init

@@ -1,12 +1,7 @@
 -- `least::find` meets its contract: the sets of the words passed satisfy the rule.
-use Prim.Native.Nat.{◌-◌, ◌*◌, ◌^◌, ◌≤◌, ◌<◌}
-use lib.Count.{count_trailing_zeros, trailing_le}
-use borrow.Author.Rules.{rules}
-use native.Mathlib.Omega.{arith}
-use Rattle.family.proofs.Lowest.{lowest}
-use Rattle.family.proofs.Words.{in_range}
+use Prim.Native.Nat.{◌-◌, ◌*◌, ◌≤◌}
 use Rattle.undos.specs.Masks.{Masks}
-use Rattle.least.proofs.Scan.{Passed, passed_none, word_passed, word_found}
+use Rattle.least.proofs.Scan.{Passed}
 use Rattle.least.proofs.find.Given as goal
 
 abbrev pub invariant-loop-w : goal.invariant-loop-w

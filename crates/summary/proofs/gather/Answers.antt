@@ -1,11 +1,9 @@
 -- `summary::gather` meets its contract: the right codes passed are gathered (`Gathering`).
 use mathlib.Core.Path.{◌≡◌, subst}
-use mathlib.Core.Logic.{inl, inr}
-use Prim.Native.Nat.{ℕ, ◌+◌, ◌-◌, ◌≤◌}
+use Prim.Native.Nat.{ℕ}
 use Rattle.outcomes.specs.Rows.{row_cell}
 use Rattle.summary.proofs.Rows.{digit_cell, cell_digit}
 use Rattle.summary.proofs.Sides.{Gathering, gathering_none, gathering_more, gathering_skip, gathered}
-use borrow.Author.Rules.{rules}
 use native.Mathlib.Omega.{arith}
 use Rattle.summary.proofs.gather.Goals as goal
 

@@ -1,6 +1,5 @@
 -- `summary::leaf` meets its contract.
 use Rattle.summary.proofs.Leaves.{leaf_summary}
-use borrow.Author.Rules.{rules}
 use Rattle.summary.proofs.leaf.Goals as goal
 
 pub returns : goal.returns

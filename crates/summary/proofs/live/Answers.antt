@@ -1,7 +1,6 @@
 -- `summary::live` meets its contract: code after code is marked where it has sets (`LiveBelow`).
 use Rattle.family.proofs.Words.{none_empty}
 use Rattle.summary.proofs.Marking.{live_zero, live_more, live_skip, live_all}
-use borrow.Author.Rules.{rules}
 use Rattle.summary.proofs.live.Goals as goal
 
 pub returns : goal.returns

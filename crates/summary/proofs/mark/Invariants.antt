@@ -1,10 +1,5 @@
 -- `summary::mark` meets its contract: the digits passed are marked (`Marking`).
-use mathlib.Core.Path.{◌≡◌, refl, subst}
-use mathlib.Core.Logic.{inl, inr}
-use Prim.Native.Nat.{ℕ, ◌%◌}
-use Rattle.summary.proofs.Marking.{Marking, marking_none, marking_more, marking_skip, marking_all}
-use borrow.Author.Rules.{rules}
-use native.Mathlib.Omega.{arith}
+use Rattle.summary.proofs.Marking.{Marking}
 use Rattle.summary.proofs.mark.Given as goal
 
 abbrev pub invariant-loop-rest : goal.invariant-loop-rest

@@ -1,10 +1,6 @@
 -- `summary::marks` meets its contract: the left codes passed are marked (`Marks`).
-use mathlib.Core.Path.{◌≡◌, subst}
-use Prim.Native.Nat.{ℕ, ◌-◌, ◌≤◌}
+use Prim.Native.Nat.{◌-◌, ◌≤◌}
 use Rattle.summary.specs.Marks.{Marks}
-use Rattle.summary.proofs.Marking.{marks_more}
-use borrow.Author.Rules.{rules}
-use native.Mathlib.Omega.{arith}
 use Rattle.summary.proofs.marks.Given as goal
 
 abbrev pub invariant-loop-left : goal.invariant-loop-left

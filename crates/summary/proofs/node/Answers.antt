@@ -6,7 +6,6 @@ use Rattle.summary.specs.Node.{Under}
 use Rattle.summary.specs.Marks.{Among}
 use Rattle.summary.proofs.Codes.{each_code}
 use Rattle.summary.proofs.Marking.{marks_among}
-use borrow.Author.Rules.{rules}
 use Rattle.summary.proofs.node.Goals as goal
 
 pub returns : goal.returns

@@ -1,7 +1,6 @@
 -- `summary::only` meets its contract.
 use mathlib.Core.Path.{sym, ◌∙◌}
 use mathlib.Core.Bool.{true≢false}
-use borrow.Author.Rules.{rules}
 use Rattle.summary.proofs.only.Goals as goal
 
 pub returns-then-may : goal.returns-then-may

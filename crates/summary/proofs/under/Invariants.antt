@@ -1,13 +1,8 @@
 -- `summary::under` meets its contract: the left codes passed are joined in (`Joining`), those that are not marked having no part in it.
-use mathlib.Core.Path.{◌≡◌, subst}
-use mathlib.Core.Logic.{inl, inr}
-use Prim.Native.Nat.{ℕ, ◌-◌, ◌≤◌}
+use Prim.Native.Nat.{◌-◌, ◌≤◌}
 use Rattle.outcomes.specs.Rows.{cell_in3}
 use Rattle.summary.specs.Marks.{Among}
-use Rattle.summary.proofs.Rows.{gathered_by_row}
-use Rattle.summary.proofs.Sides.{left_added, left_passed, Joining, joining_none, joining_more, joined_all, joined_none}
-use borrow.Author.Rules.{rules}
-use native.Mathlib.Omega.{arith}
+use Rattle.summary.proofs.Sides.{Joining}
 use Rattle.summary.proofs.under.Given as goal
 
 abbrev pub invariant-loop-left : goal.invariant-loop-left

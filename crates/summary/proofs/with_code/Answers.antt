@@ -2,7 +2,6 @@
 use Rattle.summary.specs.Summary.{family_of}
 use Rattle.summary.proofs.Marking.{code_marked, code_passed}
 use native.Mathlib.Omega.{arith}
-use borrow.Author.Rules.{rules}
 use Rattle.summary.proofs.with_code.Goals as goal
 
 pub returns-then-is_empty : goal.returns-then-is_empty
