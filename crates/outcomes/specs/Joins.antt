@@ -1,4 +1,5 @@
 -- What two codes join to, decided: at n levels each answer carries the rule of `Join` that it is by. So the chart becomes a table over the numbers of codes.
+use mathlib.Core.Path.{sym, subst}
 use Rattle.std.specs.Prelude.{◌≡◌, refl, cond, [], ◌∷◌, ℕ, zero, suc, ◌-◌, ltb, take}
 use Rattle.process.specs.Process.{Status, ok, fail, Form, sequence, parallel, choice, compensation, handler}
 use Rattle.process.specs.Figure2.{both}
@@ -84,7 +85,7 @@ joins choice n (s ∷ a) [] = can j_choice_left
 joins choice n (s ∷ a) (t ∷ b) = cannot
 joins compensation n [] [] = can j_none
 joins compensation n [] (t ∷ b) = cannot
-joins compensation n (ok ∷ []) b = can {c = ok ∷ take (suc n) b} (rw (take_nil n) j_compensation)
+joins compensation n (ok ∷ []) b = can {c = ok ∷ take (suc n) b} (subst (λ (t : Code). Join compensation (ok ∷ t) (take (suc n) b) (ok ∷ take (suc n) b)) (sym (take_nil n)) j_compensation)
 joins compensation n (ok ∷ s ∷ a) b = cannot
 joins compensation n (fail ∷ a) [] = can j_compensation_fails
 joins compensation n (fail ∷ a) (t ∷ b) = cannot
