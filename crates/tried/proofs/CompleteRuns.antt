@@ -28,6 +28,7 @@ done_ok f_done = refl
 -- an undo of leaves runs nothing
 done_complete : {r : Run} {s : Status} → Complete done r s → r ≡ []
 done_complete (c_ok f_done) = refl
+done_complete {r = r} (c_fail {p = p} {s = s} f _ _) = elim f [ ]
 
 sequence_done : {r : Run} {s : Status} → Complete (node sequence done done) r s → r ≡ []
 sequence_done (c_ok (f_sequence f_done f_done e)) = sym e
@@ -53,6 +54,7 @@ data Handled : Run → Type 0 where
 
 handled : {r : Run} {s : Status} {U : Process} → Forward (node handler (leaf 0 either) (leaf 1 finishes)) r s U → Handled r × (ok ≡ s) × (U ≡ done)
 handled (f_handler (f_leaf h)) = (finished refl, refl, refl)
+handled {r = r} {s = s} {U = U} (f_handler_fails {q = q} (f_leaf h) (c_fail {p = p} f _ _) _ e) = elim f [ ]
 handled (f_handler_fails (f_leaf h) (c_ok f_done) (f_leaf {s = ok} g) e) = (skipped (sym e), refl, refl)
 handled (f_handler_fails (f_leaf h) (c_ok f_done) (f_leaf {s = fail} g) e) = absurd (false≢true g)
 

@@ -37,6 +37,7 @@ kept true w m = Memᴰ.tail m
 kept false w m = m
 
 among_leaving : (f : Run → ℕ) (set : ℕ) {r : Run} {ws : List Run} → Memᴰ r ws → f r ≡ set → Memᴰ r (leaving f set ws)
+among_leaving f set {r = r} {ws = []} m z = elim m [ ]
 among_leaving f set {ws = w ∷ ws} (Memᴰ.head e) z = rw (eq-eqb (f w) set (ap f (sym e) ∙ z)) (Memᴰ.head e)
 among_leaving f set {ws = w ∷ ws} (Memᴰ.tail m) z = kept (eqb (f w) set) w (among_leaving f set m z)
 

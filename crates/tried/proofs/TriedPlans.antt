@@ -44,6 +44,7 @@ each p [] = true
 each p (x ∷ xs) = p x && each p xs
 
 each_at : {A : Type 0} (p : A → Bool) {x : A} {xs : List A} → T (each p xs) → Memᴰ x xs → T (p x)
+each_at {A = A} p {xs = []} t m = elim m [ ]
 each_at p {xs = y ∷ ys} t (Memᴰ.head e) = rw e (both_hold (p y) (each p ys) t).0
 each_at p {xs = y ∷ ys} t (Memᴰ.tail m) = each_at p (both_hold (p y) (each p ys) t).1 m
 
@@ -54,6 +55,7 @@ data All {A : Type 0} (P : A → Type 0) : List A → Type 0 where
   ◌then◌ : {x : A} {xs : List A} → P x → All P xs → All P (x ∷ xs)
 
 all_at : {A : Type 0} {P : A → Type 0} {x : A} {xs : List A} → All P xs → Memᴰ x xs → P x
+all_at {A = A} {P = P} no_more m = elim m [ ]
 all_at {P = P} (t then ts) (Memᴰ.head e) = subst P (sym e) t
 all_at (t then ts) (Memᴰ.tail m) = all_at ts m
 
