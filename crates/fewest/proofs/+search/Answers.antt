@@ -2,19 +2,17 @@
 -- that of the candidates passed; and what the fold rules out is cut off. With each call of itself one leaf less is free.
 use mathlib.Core.Path.{◌≡◌, refl, sym, ◌∙◌}
 use mathlib.Core.Bool.{Bool, true, false, ◌&&◌, true≢false}
-use Prim.Native.Nat.{ℕ, ◌≤◌, ◌<◌, ◌-◌, min}
+use Prim.Native.Nat.{ℕ, ◌<◌, min}
 use native.Mathlib.Omega.{arith}
 use lib.Dec.{leb}
 use lib.ListN.{length-set}
 use lib.ListN.{set as put}
-use borrow.Author.Rules.{rules}
 use borrow.Author.Tests.{leb-true}
 use Rattle.nodes.specs.Nodes.{count}
 use Rattle.plan.specs.Tree.{process_of}
 use Rattle.fewest.specs.Costs.{fewest_of}
-use Rattle.fewest.specs.Search.{wishes, candidate, least_where, searched}
-use Rattle.fewest.specs.Fewest.{AtDue}
-use Rattle.fewest.proofs.Stages.{least_to, least_next, none_due, free_candidate, zeros, one_less}
+use Rattle.fewest.specs.Search.{wishes, candidate, searched}
+use Rattle.fewest.proofs.Stages.{least_to, least_next, none_due, free_candidate, one_less}
 use Rattle.fewest.proofs.Searching.{due_tried, cut}
 use Rattle.fewest.proofs.+search.Goals as goal
 

@@ -1,13 +1,8 @@
 -- `fewest::add_row` meets its contract: the costs so far are those of the cells passed, and where nothing is left of the row those of all.
-use mathlib.Core.Path.{◌≡◌, refl, sym, ◌∙◌}
+use mathlib.Core.Path.{◌≡◌}
 use Prim.Native.Nat.{◌-◌, ◌*◌, ◌/◌, ◌^◌, ◌≤◌}
-use native.Mathlib.Numerals.{add-one}
-use borrow.Author.Tests.{lt-ltb, le-ltb, eqb-true, not-false}
 use Rattle.fewest.specs.Costs.{row_costs}
 use Rattle.outcomes.specs.Rows.{row_cell}
-use Rattle.fewest.proofs.Rows.{next_cell, next_rest, row_over}
-use borrow.Author.Rules.{rules}
-use native.Mathlib.Omega.{arith}
 use Rattle.fewest.proofs.add_row.Given as goal
 
 abbrev pub invariant-loop-r : goal.invariant-loop-r

@@ -3,7 +3,6 @@ use Prim.Native.Nat.{◌-◌}
 use borrow.Author.Tests.{lt-ltb, ne_eqb}
 use native.Mathlib.Omega.{arith}
 use Rattle.fewest.specs.Costs.{with_sum}
-use borrow.Author.Rules.{rules}
 use Rattle.fewest.proofs.add_sum.Goals as goal
 
 pub returns-then-digit-eq0 : goal.returns-then-digit-eq0

@@ -1,6 +1,5 @@
 -- `fewest::choose` meets its contract.
 use native.Mathlib.Omega.{arith}
-use borrow.Author.Rules.{rules}
 use Rattle.fewest.proofs.choose.Goals as goal
 
 pub first_single-action-requires : goal.first_single-action-requires

@@ -1,6 +1,5 @@
 -- `fewest::costs_at` meets its contract.
 use borrow.Author.Tests.{lt-ltb, le-ltb}
-use borrow.Author.Rules.{rules}
 use Rattle.fewest.proofs.costs_at.Goals as goal
 
 pub returns-then-form-lt3 : goal.returns-then-form-lt3

@@ -1,9 +1,8 @@
 -- `fewest::fewest_left` meets its contract.
-use Prim.Native.Nat.{◌-◌, ◌<◌}
+use Prim.Native.Nat.{◌<◌}
 use Rattle.nodes.specs.Nodes.{count}
 use Rattle.fewest.specs.Search.{is_left}
-use Rattle.fewest.proofs.Choosing.{count_few, Among, among_none, among_more, among_all}
-use borrow.Author.Rules.{rules}
+use Rattle.fewest.proofs.Choosing.{count_few, among_none, among_more, among_all}
 use native.Mathlib.Omega.{arith}
 use Rattle.fewest.proofs.fewest_left.Goals as goal
 

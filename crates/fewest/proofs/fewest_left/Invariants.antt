@@ -1,10 +1,6 @@
 -- `fewest::fewest_left` meets its contract.
-use Prim.Native.Nat.{◌-◌, ◌<◌}
-use Rattle.nodes.specs.Nodes.{count}
-use Rattle.fewest.specs.Search.{is_left}
-use Rattle.fewest.proofs.Choosing.{count_few, Among, among_none, among_more, among_all}
-use borrow.Author.Rules.{rules}
-use native.Mathlib.Omega.{arith}
+use Prim.Native.Nat.{◌-◌}
+use Rattle.fewest.proofs.Choosing.{Among}
 use Rattle.fewest.proofs.fewest_left.Given as goal
 
 abbrev pub invariant-loop-a : goal.invariant-loop-a

@@ -1,8 +1,4 @@
 -- `fewest::first_single` meets its contract: each that it looks at is due.
-use mathlib.Core.Path.{◌≡◌}
-use mathlib.Core.Bool.{true}
-use Prim.Native.Nat.{◌-◌, ◌≤◌, ◌<◌}
-use Rattle.fewest.specs.Search.{due}
 use native.Mathlib.Omega.{arith}
 use Rattle.fewest.proofs.first_single.Goals as goal
 

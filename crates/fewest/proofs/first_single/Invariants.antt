@@ -3,7 +3,6 @@ use mathlib.Core.Path.{◌≡◌}
 use mathlib.Core.Bool.{true}
 use Prim.Native.Nat.{◌-◌, ◌≤◌, ◌<◌}
 use Rattle.fewest.specs.Search.{due}
-use native.Mathlib.Omega.{arith}
 use Rattle.fewest.proofs.first_single.Given as goal
 
 abbrev pub invariant-loop-a : goal.invariant-loop-a

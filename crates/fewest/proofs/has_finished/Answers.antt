@@ -1,7 +1,6 @@
 -- `fewest::has_finished` meets its contract.
 use mathlib.Core.Path.{sym, ◌∙◌}
 use native.Mathlib.Omega.{arith}
-use borrow.Author.Rules.{rules}
 use Rattle.fewest.proofs.has_finished.Goals as goal
 
 pub bounds-table-n : goal.bounds-table-n

@@ -1,7 +1,6 @@
 -- `fewest::is_candidate` meets its contract.
 use mathlib.Core.Path.{sym, ◌∙◌}
 use native.Mathlib.Omega.{arith}
-use borrow.Author.Rules.{rules}
 use Rattle.fewest.proofs.is_candidate.Goals as goal
 
 pub bounds-table-n : goal.bounds-table-n

@@ -1,5 +1,4 @@
 -- `fewest::is_cut` meets its contract.
-use borrow.Author.Rules.{rules}
 use Rattle.fewest.proofs.is_cut.Goals as goal
 
 pub returns-then-other : goal.returns-then-other

@@ -1,6 +1,5 @@
 -- `fewest::is_due` meets its contract.
 use borrow.Author.Tests.{eq-eqb, ne_eqb}
-use borrow.Author.Rules.{rules}
 use Rattle.fewest.proofs.is_due.Goals as goal
 
 pub returns-then-set-a-eq1 : goal.returns-then-set-a-eq1

@@ -1,15 +1,11 @@
 -- `fewest::is_finished` meets its contract: no leaf that was passed has finished.
-use mathlib.Core.Path.{◌≡◌, refl, sym, ◌∙◌}
-use mathlib.Core.Bool.{Bool, false, ◌&&◌}
-use mathlib.Core.List.{List}
-use Prim.Native.Nat.{ℕ, ◌-◌, ◌≤◌}
+use mathlib.Core.Path.{◌≡◌}
+use mathlib.Core.Bool.{false, ◌&&◌}
+use Prim.Native.Nat.{◌-◌, ◌≤◌}
 use lib.Dec.{eqb}
 use Rattle.nodes.specs.Nodes.{count}
 use Rattle.fewest.specs.Leaving.{outcome_at}
 use Rattle.fewest.specs.Search.{is_leaf_of, any_below}
-use Rattle.fewest.proofs.Below.{any_true, any_false}
-use borrow.Author.Rules.{rules}
-use native.Mathlib.Omega.{arith}
 use Rattle.fewest.proofs.is_finished.Given as goal
 
 abbrev pub invariant-loop-i : goal.invariant-loop-i

@@ -1,6 +1,5 @@
 -- `fewest::is_leaf_of` meets its contract.
 use borrow.Author.Tests.{eq-eqb, ne_eqb}
-use borrow.Author.Rules.{rules}
 use Rattle.fewest.proofs.is_leaf_of.Goals as goal
 
 pub returns-then-x-eq0 : goal.returns-then-x-eq0

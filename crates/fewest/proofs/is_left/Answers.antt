@@ -1,8 +1,6 @@
 -- `fewest::is_left` meets its contract.
 use mathlib.Core.Path.{sym, ◌∙◌}
-use borrow.Author.Tests.{not-true, not-false}
 use native.Mathlib.Omega.{arith}
-use borrow.Author.Rules.{rules}
 use Rattle.fewest.proofs.is_left.Goals as goal
 
 pub returns-then-not-is_candidate : goal.returns-then-not-is_candidate

@@ -2,7 +2,6 @@
 use Prim.Native.Nat.{◌<◌}
 use borrow.Author.Tests.{eq-eqb, ne_eqb}
 use native.Mathlib.Omega.{arith}
-use borrow.Author.Rules.{rules}
 use Rattle.fewest.proofs.is_welcome.Goals as goal
 
 pub overflow_shr-result : goal.overflow_shr-result

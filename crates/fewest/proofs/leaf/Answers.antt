@@ -1,5 +1,4 @@
 -- `fewest::leaf` meets its contract.
-use borrow.Author.Rules.{rules}
 use Rattle.fewest.proofs.leaf.Goals as goal
 
 pub returns : goal.returns

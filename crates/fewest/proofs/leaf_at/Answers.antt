@@ -2,7 +2,6 @@
 use Rattle.state.proofs.LeafTypes.{type_finishes, type_fails, kind_type}
 use Rattle.state.specs.State.{leaf_type}
 use native.Mathlib.Omega.{arith}
-use borrow.Author.Rules.{rules}
 use Rattle.fewest.proofs.leaf_at.Goals as goal
 
 pub is_welcome-welcome-requires : goal.is_welcome-welcome-requires

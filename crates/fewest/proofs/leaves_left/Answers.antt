@@ -1,11 +1,9 @@
 -- `fewest::leaves_left` meets its contract: so many are among the nodes passed.
 use mathlib.Core.Path.{◌≡◌, refl}
 use mathlib.Core.Bool.{cond}
-use Prim.Native.Nat.{◌-◌, ◌≤◌}
 use Rattle.nodes.specs.Nodes.{count}
-use Rattle.fewest.specs.Search.{is_left, count_where}
+use Rattle.fewest.specs.Search.{is_left}
 use Rattle.fewest.proofs.Below.{count_more, counted_low}
-use borrow.Author.Rules.{rules}
 use native.Mathlib.Omega.{arith}
 use Rattle.fewest.proofs.leaves_left.Goals as goal
 

@@ -1,10 +1,8 @@
 -- `fewest::next_candidate` meets its contract: none of those that were passed is one.
-use mathlib.Core.Path.{◌≡◌, refl, sym, ◌∙◌}
-use Prim.Native.Nat.{◌-◌}
+use mathlib.Core.Path.{refl, sym, ◌∙◌}
 use Rattle.nodes.specs.Nodes.{count}
 use Rattle.fewest.specs.Search.{candidate}
-use Rattle.fewest.proofs.Below.{Passed, passed_none, passed_more, first_here, first_none}
-use borrow.Author.Rules.{rules}
+use Rattle.fewest.proofs.Below.{passed_none, passed_more, first_here, first_none}
 use native.Mathlib.Omega.{arith}
 use Rattle.fewest.proofs.next_candidate.Goals as goal
 

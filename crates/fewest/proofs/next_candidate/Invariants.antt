@@ -1,11 +1,9 @@
 -- `fewest::next_candidate` meets its contract: none of those that were passed is one.
-use mathlib.Core.Path.{◌≡◌, refl, sym, ◌∙◌}
+use mathlib.Core.Path.{◌≡◌}
 use Prim.Native.Nat.{◌-◌}
 use Rattle.nodes.specs.Nodes.{count}
 use Rattle.fewest.specs.Search.{candidate}
-use Rattle.fewest.proofs.Below.{Passed, passed_none, passed_more, first_here, first_none}
-use borrow.Author.Rules.{rules}
-use native.Mathlib.Omega.{arith}
+use Rattle.fewest.proofs.Below.{Passed}
 use Rattle.fewest.proofs.next_candidate.Given as goal
 
 abbrev pub invariant-loop-i : goal.invariant-loop-i

@@ -1,8 +1,7 @@
 -- `fewest::next_due` meets its contract: none of those that were passed is due.
 use mathlib.Core.Path.{sym, ◌∙◌}
-use Prim.Native.Nat.{◌-◌}
 use Rattle.fewest.specs.Search.{due}
-use Rattle.fewest.proofs.Below.{Passed, passed_none, passed_more, first_here, first_none}
+use Rattle.fewest.proofs.Below.{passed_none, passed_more, first_here, first_none}
 use native.Mathlib.Omega.{arith}
 use Rattle.fewest.proofs.next_due.Goals as goal
 

@@ -1,11 +1,8 @@
 -- `fewest::node` meets its contract: the costs so far are those of the left codes passed.
-use mathlib.Core.Path.{◌≡◌, refl}
+use mathlib.Core.Path.{◌≡◌}
 use Prim.Native.Nat.{◌-◌, ◌≤◌}
-use native.Mathlib.Numerals.{add-one}
 use Rattle.outcomes.specs.Rows.{cell_in3}
 use Rattle.fewest.specs.Costs.{node_costs}
-use borrow.Author.Rules.{rules}
-use native.Mathlib.Omega.{arith}
 use Rattle.fewest.proofs.node.Given as goal
 
 abbrev pub invariant-loop-l : goal.invariant-loop-l
