@@ -1,5 +1,5 @@
 -- The promises on what is answered to a text. The answer is one of three (`answered`), and each is another; what a text gets is told in Turning.
-use mathlib.Core.Path.{◌≡◌, refl, sym, ap, subst, ◌∙◌}
+use mathlib.Core.Path.{◌≡◌, refl, ap, subst, ◌∙◌}
 use mathlib.Core.Bool.{Bool, true, false, cond}
 use mathlib.Core.List.{List}
 use mathlib.Core.Option.{some, some-injective, none-ne-some}

@@ -27,5 +27,5 @@ module _ (pairs : List ℕ) (set : ℕ) where
 pub keeps_sense : KeepsSense
 keeps_sense = record {
   same_values = λ text p pairs set t few. (laws pairs set).one_part (a_rule t.part) (omega arith) few ∙ ap (λ (v : Value). v ∷ []) (means pairs set t.part);
-  same_sets_lem = λ text p pairs set t few. (laws pairs set).satisfied (a_rule t.part) (omega arith) few ∙ ap (λ (v : Value). v.positive) (means pairs set t.part);
+  same_sets = λ text p pairs set t few. (laws pairs set).satisfied (a_rule t.part) (omega arith) few ∙ ap (λ (v : Value). v.positive) (means pairs set t.part);
 }

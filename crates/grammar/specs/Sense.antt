@@ -33,5 +33,5 @@ pub record KeepsSense : Type 0 where
   pub same_values : (text p pairs : List ℕ) (set : ℕ) (t : Typed text p) → length p ≤ 127
       → values pairs set [] p ≡ sense pairs set t.part ∷ []
   -- so a set satisfies the rule where the text is so
-  pub same_sets_lem : (text p pairs : List ℕ) (set : ℕ) (t : Typed text p) → length p ≤ 127
+  pub same_sets : (text p pairs : List ℕ) (set : ℕ) (t : Typed text p) → length p ≤ 127
       → satisfies p pairs set ≡ (sense pairs set t.part).positive

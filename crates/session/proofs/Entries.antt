@@ -122,7 +122,7 @@ fitting_text : (l o : List ℕ) (n k : ℕ) (n-large k-large : Bool) → ltb 255
 fitting_text l o n k true k-large e f d g = tt
 fitting_text l o n k false true e f d g = tt
 fitting_text l o n k false false e f d g = record {
-  leaf_text_lem = l;
+  leaf_text = l;
   outcome_text = o;
   leaf_decimal = d;
   leaf_fits = ltb-false 255 n e;
@@ -143,7 +143,7 @@ timed_text : (line m : List ℕ) (f : Found) (z : Number) → TextOf line f → 
 timed_text line m (found.Entry e) (Is n) x q =
     let (minute, minute-small) = number_only m n q in
     record {
-      leaf_text_lem = x.leaf_text_lem;
+      leaf_text = x.leaf_text;
       outcome_text = x.outcome_text;
       minute_text = m;
       leaf_decimal = x.leaf_decimal;
@@ -152,7 +152,7 @@ timed_text line m (found.Entry e) (Is n) x q =
       outcome_fits = x.outcome_fits;
       minute_decimal = minute;
       minute_fits = minute-small;
-      parted = rw x.parted (append_assoc x.leaf_text_lem (32 ∷ x.outcome_text) (32 ∷ m));
+      parted = rw x.parted (append_assoc x.leaf_text (32 ∷ x.outcome_text) (32 ∷ m));
     }
 timed_text line m (found.Entry e) Unwritten x q = tt
 timed_text line m (found.Entry e) Wrong x q = tt
@@ -185,18 +185,18 @@ entry_each e l o leaf leaf_fits outcome outcome_fits =
 
 two_each : (line : List ℕ) (e : Entry) → EntryText e line → entry_in (line_of fresh_line line) ≡ found.Entry e
 two_each line e x =
-    let h = decimal_no_blank e.leaf x.leaf_text_lem x.leaf_decimal in
+    let h = decimal_no_blank e.leaf x.leaf_text x.leaf_decimal in
     let k = decimal_no_blank e.outcome x.outcome_text x.outcome_decimal in
-    let entry = entry_each e x.leaf_text_lem x.outcome_text x.leaf_decimal x.leaf_fits x.outcome_decimal x.outcome_fits in
-    rw (x.parted, two_read x.leaf_text_lem x.outcome_text h k) entry
+    let entry = entry_each e x.leaf_text x.outcome_text x.leaf_decimal x.leaf_fits x.outcome_decimal x.outcome_fits in
+    rw (x.parted, two_read x.leaf_text x.outcome_text h k) entry
 
 three_each : (line : List ℕ) (e : Entry) (m : ℕ) → TimedText e m line → entry_in (line_of fresh_line line) ≡ found.Timed e m
 three_each line e m x =
-    let h = decimal_no_blank e.leaf x.leaf_text_lem x.leaf_decimal in
+    let h = decimal_no_blank e.leaf x.leaf_text x.leaf_decimal in
     let k = decimal_no_blank e.outcome x.outcome_text x.outcome_decimal in
-    let entry = entry_each e x.leaf_text_lem x.outcome_text x.leaf_decimal x.leaf_fits x.outcome_decimal x.outcome_fits in
+    let entry = entry_each e x.leaf_text x.outcome_text x.leaf_decimal x.leaf_fits x.outcome_decimal x.outcome_fits in
     let minute = number_each m x.minute_text x.minute_fits x.minute_decimal in
-    rw (x.parted, three_read x.leaf_text_lem x.outcome_text x.minute_text h k, entry, minute)
+    rw (x.parted, three_read x.leaf_text x.outcome_text x.minute_text h k, entry, minute)
 
 pub reads_entries : ReadsEntries
 reads_entries =

@@ -9,26 +9,26 @@ use Rattle.session.specs.declared.line.Found.TheVariants as found
 
 -- The text of an entry: two numbers that fit a byte, with one blank (32) between them.
 pub record EntryText (e : Entry) (line : List ℕ) : Type 0 where
-  pub leaf_text_lem : List ℕ
+  pub leaf_text : List ℕ
   pub outcome_text : List ℕ
-  pub leaf_decimal : Decimal e.leaf leaf_text_lem
+  pub leaf_decimal : Decimal e.leaf leaf_text
   pub leaf_fits : e.leaf ≤ 255
   pub outcome_decimal : Decimal e.outcome outcome_text
   pub outcome_fits : e.outcome ≤ 255
-  pub parted : line ≡ leaf_text_lem ++ (32 ∷ outcome_text)
+  pub parted : line ≡ leaf_text ++ (32 ∷ outcome_text)
 
 -- The text of an entry with its minute m: two numbers that fit a byte and one that fits four, with one blank between each two.
 pub record TimedText (e : Entry) (m : ℕ) (line : List ℕ) : Type 0 where
-  pub leaf_text_lem : List ℕ
+  pub leaf_text : List ℕ
   pub outcome_text : List ℕ
   pub minute_text : List ℕ
-  pub leaf_decimal : Decimal e.leaf leaf_text_lem
+  pub leaf_decimal : Decimal e.leaf leaf_text
   pub leaf_fits : e.leaf ≤ 255
   pub outcome_decimal : Decimal e.outcome outcome_text
   pub outcome_fits : e.outcome ≤ 255
   pub minute_decimal : Decimal m minute_text
   pub minute_fits : m ≤ 4294967295
-  pub parted : line ≡ leaf_text_lem ++ (32 ∷ (outcome_text ++ (32 ∷ minute_text)))
+  pub parted : line ≡ leaf_text ++ (32 ∷ (outcome_text ++ (32 ∷ minute_text)))
 
 pub record ReadsEntries : Type 0 where
   -- nothing that is not an entry is taken as one

@@ -89,11 +89,13 @@ implication-returns-then-t t c = steps.then c.disjunction-left.ensures (steps.no
 
 pub implication-implication-right-requires : goal.implication-implication-right-requires
 implication-implication-right-requires t c =
-    let d = c.disjunction-left.ensures.forward in
-    (steps.lower_rank reader.implication reader.implication _ c.args.from c.decreases (omega arith)
-    (steps.kept _ c.push-negated.ensures c.next_token-t.ensures)
-    (omega arith)
-    c.moved.ensures, tt)
+    let d = c.disjunction-left.ensures.forward in (
+      steps.lower_rank reader.implication reader.implication _ c.args.from c.decreases (omega arith)
+          (steps.kept _ c.push-negated.ensures c.next_token-t.ensures)
+          (omega arith)
+          c.moved.ensures,
+      tt,
+    )
 
 pub implication-returns : goal.implication-returns
 implication-returns t c =

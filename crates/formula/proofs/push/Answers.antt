@@ -5,7 +5,6 @@ use Prim.Native.Nat.{ℕ, suc, ◌+◌, ◌-◌, ◌<◌}
 use native.Mathlib.Omega.{arith}
 use lib.ListN.{length, replicate, set, length-append}
 use lib.Seq.{set-append_seam}
-use borrow.Author.Rules.{rules}
 use Rattle.formula.specs.Answer.{room}
 use Rattle.formula.proofs.push.Goals as goal
 

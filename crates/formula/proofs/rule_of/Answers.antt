@@ -1,7 +1,6 @@
 -- `formula::rule_of` meets its contract: the pass tells which texts are typed rules and how many bytes they become, so the readers meet only those that fit.
 use mathlib.Core.Path.{sym, ◌∙◌}
 use native.Mathlib.Omega.{arith}
-use borrow.Author.Rules.{rules}
 use Rattle.formula.proofs.Turning as turning
 use Rattle.formula.proofs.rule_of.Goals as goal
 

@@ -1,8 +1,5 @@
 -- `recognizer::count_of` meets its contract.
-use Prim.Native.Nat.{◌-◌}
 use native.Mathlib.Omega.{arith}
-use lib.ListN.{length}
-use borrow.Author.Rules.{rules}
 use borrow.Author.Tests.{not-true, not-false}
 use Rattle.recognizer.proofs.Along as along
 use Rattle.recognizer.proofs.Along.{Passing}

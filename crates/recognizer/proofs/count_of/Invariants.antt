@@ -1,10 +1,6 @@
 -- `recognizer::count_of` meets its contract.
 use Prim.Native.Nat.{◌-◌}
-use native.Mathlib.Omega.{arith}
 use lib.ListN.{length}
-use borrow.Author.Rules.{rules}
-use borrow.Author.Tests.{not-true, not-false}
-use Rattle.recognizer.proofs.Along as along
 use Rattle.recognizer.proofs.Along.{Passing}
 use Rattle.recognizer.proofs.count_of.Given as goal
 

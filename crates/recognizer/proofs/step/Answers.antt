@@ -1,6 +1,5 @@
 -- `recognizer::step` meets its contract.
 use mathlib.Core.Path.{◌∙◌}
-use borrow.Author.Rules.{rules}
 use Rattle.recognizer.proofs.step.Goals as goal
 
 pub returns-then-p : goal.returns-then-p

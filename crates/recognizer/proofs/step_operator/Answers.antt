@@ -1,6 +1,5 @@
 -- `recognizer::step_operator` meets its contract, branch by branch.
 use mathlib.Core.Path.{◌∙◌}
-use borrow.Author.Rules.{rules}
 use borrow.Author.Tests.{eq-eqb, ne_eqb, lt-ltb, le-ltb}
 use Rattle.recognizer.proofs.step_operator.Goals as goal
 

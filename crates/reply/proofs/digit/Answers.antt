@@ -1,5 +1,4 @@
 -- `reply::digit` meets its contract.
-use borrow.Author.Rules.{rules}
 use borrow.Author.Tests.{lt-ltb, le-ltb}
 use Rattle.reply.proofs.digit.Goals as goal
 

@@ -1,6 +1,5 @@
 -- `reply::line_of` meets its contract: each line has room in a text.
 use mathlib.Core.List.{[]}
-use borrow.Author.Rules.{rules}
 use Rattle.text.proofs.Ends.{put_alone}
 use Rattle.formula.specs.declared.Answer.TheVariants.{Refused}
 use Rattle.reply.specs.Line.{line_with}

@@ -1,6 +1,5 @@
 -- `reply::put_hex` meets its contract.
 use native.Mathlib.Omega.{arith}
-use borrow.Author.Rules.{rules}
 use Rattle.reply.proofs.Lines.{two}
 use Rattle.reply.proofs.put_hex.Goals as goal
 

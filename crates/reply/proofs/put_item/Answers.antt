@@ -1,6 +1,5 @@
 -- `reply::put_item` meets its contract: by the test whether it is the first.
 use mathlib.Core.Path.{◌∙◌}
-use borrow.Author.Rules.{rules}
 use borrow.Author.Tests.{eq-eqb, ne_eqb}
 use Rattle.text.proofs.Ends.{appended_first}
 use Rattle.reply.proofs.put_item.Goals as goal

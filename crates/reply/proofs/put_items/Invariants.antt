@@ -1,11 +1,8 @@
 -- `reply::put_items` meets its contract. The invariant: what is left of the bytes, put into the text so far, gives what all of them give.
-use mathlib.Core.Path.{◌≡◌, sym, ◌∙◌}
+use mathlib.Core.Path.{◌≡◌}
 use Prim.Native.Nat.{◌-◌, ◌≤◌, min}
-use native.Mathlib.Omega.{arith}
-use borrow.Author.Rules.{rules}
 use Rattle.text.specs.Lines.{each}
 use Rattle.text.specs.Text.{appended}
-use Rattle.text.proofs.Ends.{each_step, each_end}
 use Rattle.reply.specs.Line.{item_at}
 use Rattle.reply.proofs.put_items.Given as goal
 

@@ -1,5 +1,4 @@
 -- `reply::typed_length` meets its contract: by the last byte.
-use borrow.Author.Rules.{rules}
 use native.Mathlib.Omega.{arith}
 use borrow.Author.Tests.{eq-eqb, ne_eqb}
 use Rattle.reply.proofs.Replies.{empty_length}

@@ -1,6 +1,5 @@
 -- `tokens::is_parted` meets its contract.
 use mathlib.Core.Path.{sym, ◌∙◌}
-use borrow.Author.Rules.{rules}
 use borrow.Author.Tests.{eq-eqb, ne_eqb}
 use Rattle.tokens.proofs.Scan.{parted_end, parted_at}
 use Rattle.tokens.proofs.is_parted.Goals as goal

@@ -1,6 +1,5 @@
 -- `tokens::next_token` meets its contract.
 use Rattle.tokens.proofs.Tokens.{next_some, next_end}
-use borrow.Author.Rules.{rules}
 use Rattle.tokens.proofs.next_token.Goals as goal
 
 pub returns-then-i-text : goal.returns-then-i-text

@@ -1,10 +1,7 @@
 -- `tokens::skip` meets its contract.
-use mathlib.Core.Path.{◌≡◌, refl}
-use Prim.Native.Nat.{◌+◌, ◌-◌}
+use mathlib.Core.Path.{refl}
 use native.Mathlib.Omega.{arith}
-use lib.ListN.{length, drop}
 use borrow.Author.Tests.{eq-eqb, ne_eqb}
-use Rattle.grammar.specs.Next.{blanks}
 use Rattle.tokens.proofs.Scan.{blanks_end, blanks_step}
 use Rattle.tokens.proofs.skip.Goals as goal
 

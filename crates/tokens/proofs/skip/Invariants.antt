@@ -1,11 +1,8 @@
 -- `tokens::skip` meets its contract.
-use mathlib.Core.Path.{◌≡◌, refl}
+use mathlib.Core.Path.{◌≡◌}
 use Prim.Native.Nat.{◌+◌, ◌-◌}
-use native.Mathlib.Omega.{arith}
 use lib.ListN.{length, drop}
-use borrow.Author.Tests.{eq-eqb, ne_eqb}
 use Rattle.grammar.specs.Next.{blanks}
-use Rattle.tokens.proofs.Scan.{blanks_end, blanks_step}
 use Rattle.tokens.proofs.skip.Given as goal
 
 abbrev pub invariant-loop-i : goal.invariant-loop-i

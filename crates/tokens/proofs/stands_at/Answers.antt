@@ -1,11 +1,7 @@
 -- `tokens::stands_at` meets its contract.
-use mathlib.Core.Path.{◌≡◌, refl, sym, ◌∙◌}
-use Prim.Native.Nat.{◌-◌}
+use mathlib.Core.Path.{refl, sym, ◌∙◌}
 use native.Mathlib.Omega.{arith}
-use lib.ListN.{length, drop}
-use borrow.Author.Rules.{rules}
 use borrow.Author.Tests.{eq-eqb, ne_eqb}
-use Rattle.grammar.specs.Next.{stands}
 use Rattle.tokens.proofs.Scan.{stands_done, stands_short, stands_step}
 use Rattle.tokens.proofs.stands_at.Goals as goal
 

@@ -2,7 +2,6 @@
 use mathlib.Core.Path.{sym, ◌∙◌}
 use borrow.Author.Tests.{eq-eqb, ne_eqb, le-leb, lt-leb, lt-ltb, le-ltb}
 use Rattle.tokens.proofs.Scan.{token_end, token_at}
-use borrow.Author.Rules.{rules}
 use Rattle.tokens.proofs.token_number.Goals as goal
 
 pub returns-then-at-text : goal.returns-then-at-text

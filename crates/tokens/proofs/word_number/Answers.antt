@@ -1,6 +1,5 @@
 -- `tokens::word_number` meets its contract.
 use mathlib.Core.Path.{sym, ◌∙◌}
-use borrow.Author.Rules.{rules}
 use Rattle.tokens.proofs.Scan.{word_not, word_and, word_or, word_implies, word_none}
 use Rattle.tokens.proofs.word_number.Goals as goal
 
