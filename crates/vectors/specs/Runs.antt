@@ -14,7 +14,7 @@ use Rattle.fields.specs.Jobs.{same_job, left_by}
 use Rattle.vectors.specs.Outcome.{held_against}
 use Rattle.vectors.specs.declared.outcome.Outcome.{Outcome}
 use Rattle.vectors.specs.declared.outcome.Outcome.TheVariants.{Damaged}
-use Rattle.vectors.specs.declared.runs.Stepped.{Stepped}
+use Rattle.vectors.specs.declared.sessions.Stepped.{Stepped}
 
 -- The runner, asked for the entry e of the job j, has answered as the bytes at `at` say, and handed back the job that they leave: where e was taken,
 -- with the minute m.

@@ -10,7 +10,7 @@ pub mod classes;
 pub mod files;
 pub mod formulas;
 pub mod outcome;
-pub mod runs;
+pub mod sessions;
 pub mod verdicts;
 
 // `Hours`: vectors as those of `Runs`, from a data file of their own.
@@ -30,8 +30,8 @@ pub fn compare(group: Group, body: &[u8]) -> Outcome
 {
     match group {
         Group::Files => files::compare(body),
-        Group::Runs => runs::compare(body),
-        Group::Hours => runs::compare(body),
+        Group::Runs => sessions::compare(body),
+        Group::Hours => sessions::compare(body),
         Group::Verdicts => verdicts::compare(body),
         Group::Formulas => formulas::compare(body),
         Group::Classes => classes::compare(body),

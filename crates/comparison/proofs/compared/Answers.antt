@@ -29,12 +29,12 @@ pub returns-then-not-c : goal.returns-then-not-c
 returns-then-not-c c =
     let is = c.count-c.ensures ∙ ap (counted c.loop-left.c c.loop-left.at) c.outcome_at.ensures in
     all_compared _ _ _ _ _ c.if-s-lt4.false c.four_at-left.ensures.0 c.start-c.ensures
-    (c.loop-left.invariant.2 ∙ (stops _ _ _ _ _ c.loop-left-test.true (ap whole (sym is) ∙ c.if-not-c.true) ∙ sym is))
+    (c.loop-left.invariant.2 ∙ (stops _ _ _ _ _ c.loop-left-test.true (ap whole (sym is) ∙ not-true _ c.if-not-c.true) ∙ sym is))
 
 pub end_of-at-requires : goal.end_of-at-requires
 end_of-at-requires c =
     let is = c.count-c.ensures ∙ ap (counted c.loop-left.c c.loop-left.at) c.outcome_at.ensures in
-    counted_whole _ _ _ c.loop-left.c (ap whole (sym is) ∙ c.if-not-c.false)
+    counted_whole _ _ _ c.loop-left.c (ap whole (sym is) ∙ not-false _ c.if-not-c.false)
 
 pub loop-left-smaller : goal.loop-left-smaller
 loop-left-smaller c = omega arith
@@ -43,8 +43,8 @@ pub loop-left-preserved : goal.loop-left-preserved
 loop-left-preserved c =
     let is = c.count-c.ensures ∙ ap (counted c.loop-left.c c.loop-left.at) c.outcome_at.ensures in
     let g = grows c.loop-left.c c.loop-left.at c.outcome_at.result c.loop-left.invariant.0 in
-    let on = goes_on _ _ _ c.loop-left.c _ c.loop-left-test.true (ap whole (sym is) ∙ c.if-not-c.false) in
-    (rw c.count-c.ensures g.agree, rw c.count-c.ensures (omega (arith, g.most)), c.loop-left.invariant.2 ∙ (on ∙ rw (c.end_of_lem.ensures.0, is)))
+    let on = goes_on _ _ _ c.loop-left.c _ c.loop-left-test.true (ap whole (sym is) ∙ not-false _ c.if-not-c.false) in
+    (rw c.count-c.ensures g.agree, rw c.count-c.ensures (omega (arith, g.most)), c.loop-left.invariant.2 ∙ (on ∙ rw (c.end_of-at.ensures.0, is)))
 
 pub returns-then-at-s : goal.returns-then-at-s
 returns-then-at-s c =

@@ -3,10 +3,10 @@ use borrow.Author.Rules.{rules}
 use Rattle.comparison.proofs.count.Goals as goal
 
 pub returns-in-Agrees : goal.returns-in-Agrees
-returns-in-Agrees c = rw c.enum_told-1.given.1
+returns-in-Agrees c = rw c.in-Agrees.is
 
 pub returns-in-Differs : goal.returns-in-Differs
-returns-in-Differs c = rw (c.outcome-1.given.1, c.first_of-kept.ensures)
+returns-in-Differs c = rw (c.in-Differs.is, c.first_of-kept.ensures)
 
 pub returns-in-Damaged : goal.returns-in-Damaged
-returns-in-Damaged c = rw c.enum_told-in-Damaged-1.given.1 c.mark_damaged.ensures
+returns-in-Damaged c = rw c.in-Damaged.is c.mark_damaged.ensures

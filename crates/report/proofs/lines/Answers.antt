@@ -14,6 +14,6 @@ pub returns : goal.returns
 returns c =
     let v = c.args.j in
     let run = c.args.run in
-    let long : length run ≡ 126 = omega (arith, c.well-formed.1.0) in
-    let bytes : Bytes run = λ k l. let fits : Fits w8 (get_or run k 0) = search (rules, c.well-formed.1.0) in omega arith in
+    let long : length run ≡ 126 = omega (arith, c.well_formed.1.0) in
+    let bytes : Bytes run = λ k l. let fits : Fits w8 (get_or run k 0) = search (rules, c.well_formed.1.0) in omega arith in
     put_alone (verdict_lines v run) c.put_verdict.ensures c.empty.ensures (verdict_length v run long bytes)

@@ -23,7 +23,7 @@ returns c =
     let i = c.args.i in
     let h = c.if-place-lt-PLACE.false in
     let enough = le-ltb (length p) place_size (omega arith) in
-    let room = plan_room p (omega arith) (λ k l. (c.shared_slice_known-1.given k).fits) i in
+    let room = plan_room p (omega arith) (λ k l. omega (arith, c.type_inv.place k)) i in
     let same = ap₂ verdict_lines c.judgement_in-j.ensures c.run_in-run.ensures in
     let text = put_both _ (plan_line i) _ c.put_verdict.ensures c.put_numbered.ensures ∙ ap (λ (l : List ℕ). appended c.empty-2.result (plan_line i ++ l)) same in
     rw enough (put_alone (plan_lines i p) text c.empty-2.ensures room)

@@ -21,4 +21,4 @@ returns c =
     let enough = le-ltb (length p) place_size (omega arith) in
     let same = ap₂ row_of c.judgement_in-j.ensures c.run_in-run.ensures in
     rw enough
-    (put_alone (row_after_name p) (c.put_row.ensures ∙ ap (appended _) same) c.empty-2.ensures (row_room p (omega arith) (λ k l. (c.shared_slice_known-1.given k).fits)))
+    (put_alone (row_after_name p) (c.put_row.ensures ∙ ap (appended _) same) c.empty-2.ensures (row_room p (omega arith) (λ k l. omega (arith, c.type_inv.place k))))

@@ -15,4 +15,4 @@ returns c =
     let p = c.args.place.now in
     let room : 126 ≤ length (drop 4 p) = omega (arith, length-drop 4 p) in
     let long = length-take-le 126 (drop 4 p) room in
-    c.copy.ensures.1 ∙ written_first (replicate 126 0) (run_in p) (omega (arith, long)) ∙ ap (λ (n : ℕ). run_in p ++ drop n (replicate 126 0)) long ∙ append-nil (run_in p)
+    c.copy.ensures.dst_after ∙ written_first (replicate 126 0) (run_in p) (omega (arith, long)) ∙ ap (λ (n : ℕ). run_in p ++ drop n (replicate 126 0)) long ∙ append-nil (run_in p)

@@ -3,19 +3,19 @@ use borrow.Author.Rules.{rules}
 use Rattle.comparison.proofs.lines.put_title.Goals as goal
 
 pub returns-in-Files : goal.returns-in-Files
-returns-in-Files c = rw c.enum_told-1.given.1 c.put.ensures
+returns-in-Files c = rw c.in-Files.is c.put.ensures
 
 pub returns-in-Runs : goal.returns-in-Runs
-returns-in-Runs c = rw c.enum_told-in-Runs-1.given.1 c.put-in-Runs.ensures
+returns-in-Runs c = rw c.in-Runs.is c.put-in-Runs.ensures
 
 pub returns-in-Hours : goal.returns-in-Hours
-returns-in-Hours c = rw c.enum_told-in-Hours-1.given.1 c.put-in-Hours.ensures
+returns-in-Hours c = rw c.in-Hours.is c.put-in-Hours.ensures
 
 pub returns-in-Verdicts : goal.returns-in-Verdicts
-returns-in-Verdicts c = rw c.enum_told-in-Verdicts-1.given.1 c.put-in-Verdicts.ensures
+returns-in-Verdicts c = rw c.in-Verdicts.is c.put-in-Verdicts.ensures
 
 pub returns-in-Formulas : goal.returns-in-Formulas
-returns-in-Formulas c = rw c.enum_told-in-Formulas-1.given.1 c.put-in-Formulas.ensures
+returns-in-Formulas c = rw c.in-Formulas.is c.put-in-Formulas.ensures
 
 pub returns-in-Classes : goal.returns-in-Classes
-returns-in-Classes c = rw c.enum_told-in-Classes-1.given.1 c.put-in-Classes.ensures
+returns-in-Classes c = rw c.in-Classes.is c.put-in-Classes.ensures

@@ -12,7 +12,7 @@ use Rattle.fields.specs.Jobs.{same_bytes}
 use Rattle.fields.proofs.jobs.same_bytes.Given as goal
 
 abbrev pub invariant-loop-i : goal.invariant-loop-i
-invariant-loop-i l = Passed (test l.a l.b) (length l.a) l.i × (length l.a ≡ length l.b)
+invariant-loop-i l = Passed (λ i. eqb (get_or l.a i 0) (get_or l.b i 0)) (length l.a) l.i × (length l.a ≡ length l.b)
 
 abbrev pub decreases-loop-i : goal.decreases-loop-i
 decreases-loop-i l = length l.a - l.i

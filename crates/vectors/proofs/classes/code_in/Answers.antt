@@ -22,7 +22,8 @@ returns c =
     let v = c.verdicts in
     let found = as_computed a.input.now (take w a.work.now) _ a.answers.now _ v.result v.ensures in
     let long : length (take w a.work.now) ≡ w = length-take-le w a.work.now (omega arith) in
-    let call = ap (λ (n : ℕ). call_of a.input.now n (length a.answers.now)) long in (
-      c.code.ensures ∙ ap code_of (found.answers ∙ ap answer_of call),
-      found.areas ∙ ap (λ (x : ℕ ⊎ List (List ℕ)). area_of x a.answers.now) call,
-    )
+    let call = ap (λ (n : ℕ). call_of a.input.now n (length a.answers.now)) long in
+    record {
+      value = c.code.ensures ∙ ap code_of (found.answers ∙ ap answer_of call);
+      answers_after = found.areas ∙ ap (λ (x : ℕ ⊎ List (List ℕ)). area_of x a.answers.now) call;
+    }

@@ -14,5 +14,5 @@ returns-then-body-eq0 c = simp (eq-eqb _ _ c.if-body-eq0.true)
 
 pub returns : goal.returns
 returns c =
-    let number = c.number_of_lem.ensures ∙ ap (λ (x : Reading). get_or (number_of x) 0) (c.read.ensures ∙ ap read_of (rest 1 c.args.body.now)) in
+    let number = c.number_of-found.ensures ∙ ap (λ (x : Reading). get_or (number_of x) 0) (c.read.ensures ∙ ap read_of (rest 1 c.args.body.now)) in
     simp (c.held.ensures, c.wide.ensures.0, number, ne_eqb _ _ c.if-body-eq0.false)

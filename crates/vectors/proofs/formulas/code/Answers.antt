@@ -3,4 +3,4 @@ use borrow.Author.Rules.{rules}
 use Rattle.vectors.proofs.formulas.code.Goals as goal
 
 pub returns-in-Refused : goal.returns-in-Refused
-returns-in-Refused c = rw (c.wide.ensures.0, c.answer-in-Refused-1.given.1)
+returns-in-Refused c = rw (c.wide.ensures.0, c.in-Refused.is)

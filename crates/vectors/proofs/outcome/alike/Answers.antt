@@ -10,37 +10,23 @@ use Rattle.vectors.specs.Outcome.{alike}
 use Rattle.vectors.proofs.outcome.alike.Goals as goal
 
 module _ (n i : ℕ) (shown body : List ℕ) (at : ℕ) where
-
   -- one byte more is alike, or is the first that is not
-
   passed : i < n → get_or shown i 0 ≡ get_or body (at + i) 0 → alike (n - i) i shown body at ≡ alike (n - (i + 1)) (i + 1) shown body at
-
   unfolding alike
-
   passed h e =
-
       let z : n - i ≡ suc (n - (i + 1)) = omega arith in
-
       rw (z, eq-eqb _ _ e, add-one i)
 
   here : i < n → (get_or shown i 0 ≡ get_or body (at + i) 0 → ⊥) → alike (n - i) i shown body at ≡ i
-
   unfolding alike
-
   here h e =
-
       let z : n - i ≡ suc (n - (i + 1)) = omega arith in
-
       rw (z, ne_eqb _ _ e)
 
   all : n ≤ i → alike (n - i) i shown body at ≡ i
-
   unfolding alike
-
   all h =
-
       let z : n - i ≡ 0 = omega arith in
-
       rw z
 
 pub loop-i-init : goal.loop-i-init

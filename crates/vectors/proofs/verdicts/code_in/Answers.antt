@@ -30,4 +30,7 @@ returns c =
     let judged = v.ensures.answer in
     let is : v.result ≡ verdict_of a.file.now w r = judged ∙ ap₂ (verdict_of a.file.now) (length-take-le w a.work.now (omega arith)) (length-take-le r a.«record».now (omega arith)) in
     let after = record_is a.file.now _ _ (take r a.«record».now) _ v.result v.ensures ∙ ap (λ (x : Judgement). record_for a.file.now x (take r a.«record».now)) is in
-    (c.code.ensures ∙ ap code_of is, ap (λ (bytes : List ℕ). bytes ++ drop r a.«record».now) after)
+    record {
+      value = c.code.ensures ∙ ap code_of is;
+      record_after = ap (λ (bytes : List ℕ). bytes ++ drop r a.«record».now) after;
+    }

@@ -16,7 +16,7 @@ pub returns : goal.returns
 returns c =
     let body = c.args.body.now in
     let short = get_or body 4 0 in
-    let code : c.code_in-found.result ≡ code_of (verdict_with short (drop 131 body)) = rw (← rest 131 body) c.code_in-found.ensures.0 in
-    let shown : c.code_in-found.new.1.1.1.0 ≡ record_with short (drop 131 body) = rw (← rest 131 body) c.code_in-found.ensures.1 in
-    let long : length c.code_in-found.new.1.1.1.0 ≡ record_size = c.code_in-found.auto.1.1.1.0 in
+    let code : c.code_in-found.result ≡ code_of (verdict_with short (drop 131 body)) = rw (← rest 131 body) c.code_in-found.ensures.value in
+    let shown : c.code_in-found.new.«record» ≡ record_with short (drop 131 body) = rw (← rest 131 body) c.code_in-found.ensures.record_after in
+    let long : length c.code_in-found.new.«record» ≡ record_size = c.code_in-found.auto.«record» in
     rw (le-ltb _ _ c.if-body-lt131.false, ← code, ← shown, ← c.four_at.ensures.0) (rw long at c.held_answer.ensures)

@@ -1,12 +1,12 @@
--- `vectors::runs::steps` meets its contract: what agrees of the whole is the steps passed and what agrees of those left.
+-- `vectors::sessions::steps` meets its contract: what agrees of the whole is the steps passed and what agrees of those left.
 -- The measure is the number of those left.
 use mathlib.Core.Path.{sym, ap, ◌∙◌}
 use Prim.Native.Nat.{◌-◌}
 use borrow.Author.Tests.{not-true, not-false}
-use Rattle.vectors.specs.declared.runs.Stepped.{Stepped}
+use Rattle.vectors.specs.declared.sessions.Stepped.{Stepped}
 use Rattle.vectors.proofs.Steps.{Along, along_none, along_more, along_stop, along_all}
 use native.Mathlib.Omega.{arith}
-use Rattle.vectors.proofs.runs.steps.Goals as goal
+use Rattle.vectors.proofs.sessions.steps.Goals as goal
 
 pub loop-i-init : goal.loop-i-init
 loop-i-init c = along_none _ _ _ _
@@ -22,7 +22,7 @@ step-one-requires c = omega arith
 
 pub returns-then-not-one : goal.returns-then-not-one
 returns-then-not-one c =
-    along_stop _ _ _ _ c.loop-i.job c.loop-i.i (omega arith) (ap (λ (x : Stepped). x.agrees) (sym c.step-one.ensures) ∙ c.if-not-one.true) c.loop-i.invariant
+    along_stop _ _ _ _ c.loop-i.job c.loop-i.i (omega arith) (ap (λ (x : Stepped). x.agrees) (sym c.step-one.ensures) ∙ not-true _ c.if-not-one.true) c.loop-i.invariant
 
 pub overflow_add-i : goal.overflow_add-i
 overflow_add-i c = omega arith
@@ -32,7 +32,7 @@ loop-i-smaller c = omega arith
 
 pub loop-i-preserved : goal.loop-i-preserved
 loop-i-preserved c =
-    let agrees = ap (λ (x : Stepped). x.agrees) (sym c.step-one.ensures) ∙ c.if-not-one.false in
+    let agrees = ap (λ (x : Stepped). x.agrees) (sym c.step-one.ensures) ∙ not-false _ c.if-not-one.false in
     rw c.step-one.ensures (along_more _ _ _ _ c.loop-i.job c.loop-i.i (omega arith) agrees c.loop-i.invariant)
 
 pub returns : goal.returns

@@ -1,8 +1,8 @@
--- `vectors::runs::agrees` meets its contract: each return by the test that led there.
+-- `vectors::sessions::agrees` meets its contract: each return by the test that led there.
 use mathlib.Core.Path.{sym, ◌∙◌}
 use borrow.Author.Rules.{rules}
 use Rattle.vectors.specs.Runs.{agrees_at}
-use Rattle.vectors.proofs.runs.agrees.Goals as goal
+use Rattle.vectors.proofs.sessions.agrees.Goals as goal
 
 pub returns-then-is_answer : goal.returns-then-is_answer
 unfolding agrees_at

@@ -1,7 +1,7 @@
--- `vectors::runs::compare` meets its contract: each return by the tests that led there.
+-- `vectors::sessions::compare` meets its contract: each return by the tests that led there.
 use borrow.Author.Tests.{eq-eqb, ne_eqb}
 use borrow.Author.Rules.{rules}
-use Rattle.vectors.proofs.runs.compare.Goals as goal
+use Rattle.vectors.proofs.sessions.compare.Goals as goal
 
 pub returns-then-body-eq0 : goal.returns-then-body-eq0
 returns-then-body-eq0 c = rw (eq-eqb _ _ c.if-body-eq0.true)

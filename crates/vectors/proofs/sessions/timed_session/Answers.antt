@@ -1,10 +1,10 @@
--- `vectors::runs::timed_session` meets its contract: each return by the test that led there.
+-- `vectors::sessions::timed_session` meets its contract: each return by the test that led there.
 use Prim.Native.Nat.{◌+◌}
 use borrow.Author.Tests.{le-leb, lt-leb}
 use borrow.Author.Rules.{rules}
 use Rattle.vectors.specs.Runs.{timed_outcome}
 use Rattle.vectors.proofs.Rest.{span}
-use Rattle.vectors.proofs.runs.timed_session.Goals as goal
+use Rattle.vectors.proofs.sessions.timed_session.Goals as goal
 
 pub returns-then-s-end : goal.returns-then-s-end
 unfolding timed_outcome

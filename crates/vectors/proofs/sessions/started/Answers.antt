@@ -1,9 +1,9 @@
--- `vectors::runs::started` meets its contract: each return by the test that led there.
+-- `vectors::sessions::started` meets its contract: each return by the test that led there.
 use mathlib.Core.Path.{sym, ◌∙◌}
 use borrow.Author.Tests.{not-true, not-false}
 use borrow.Author.Rules.{rules}
 use Rattle.vectors.specs.Runs.{started_with}
-use Rattle.vectors.proofs.runs.started.Goals as goal
+use Rattle.vectors.proofs.sessions.started.Goals as goal
 
 pub returns-then-not-is_answer : goal.returns-then-not-is_answer
 unfolding started_with

@@ -1,8 +1,8 @@
--- `vectors::runs::made_up` meets its contract: each return by the test that led there.
+-- `vectors::sessions::made_up` meets its contract: each return by the test that led there.
 use borrow.Author.Tests.{le-leb, lt-leb}
 use Rattle.vectors.specs.Runs.{made_up_outcome}
 use borrow.Author.Rules.{rules}
-use Rattle.vectors.proofs.runs.made_up.Goals as goal
+use Rattle.vectors.proofs.sessions.made_up.Goals as goal
 
 pub returns-then-s-lt-STEPS_AT : goal.returns-then-s-lt-STEPS_AT
 unfolding made_up_outcome

@@ -1,4 +1,4 @@
--- `vectors::runs::job_at` meets its contract: each area is copied whole into zeros.
+-- `vectors::sessions::job_at` meets its contract: each area is copied whole into zeros.
 use mathlib.Core.List.{List, append-nil}
 use mathlib.Core.Path.{◌≡◌, ◌∙◌}
 use Prim.Native.Nat.{ℕ, ◌+◌, ◌-◌, ◌≤◌}
@@ -10,7 +10,7 @@ use Rattle.blocks.specs.Area.{written}
 use Rattle.plan.specs.PlanFile.{most_bytes}
 use Rattle.job.specs.Job.{most_windows}
 use Rattle.job.proofs.Bytes.{padded}
-use Rattle.vectors.proofs.runs.job_at.Goals as goal
+use Rattle.vectors.proofs.sessions.job_at.Goals as goal
 
 -- an area that is written over whole, by n bytes of a body that is long enough
 filled : (at n : ℕ) (s : List ℕ) → at + n ≤ length s → written (replicate n 0) 0 (take n (drop at s)) ≡ take n (drop at s)
@@ -25,4 +25,4 @@ returns c =
     let file = filled 1 most_bytes s (omega (arith, c.requires)) in
     let entries = filled (most_bytes + 9) 126 s (omega (arith, c.requires)) in
     let windows = filled (most_bytes + 144) most_windows s (omega (arith, c.requires)) in
-    rw (c.copy.ensures.1 ∙ file, c.number_at.ensures, c.copy-2.ensures.1 ∙ entries, c.number_at-2.ensures, c.copy-3.ensures.1 ∙ windows, c.number_at-3.ensures, c.four_at.ensures.0)
+    rw (c.copy.ensures.dst_after ∙ file, c.number_at.ensures, c.copy-2.ensures.dst_after ∙ entries, c.number_at-2.ensures, c.copy-3.ensures.dst_after ∙ windows, c.number_at-3.ensures, c.four_at.ensures.0)

@@ -1,6 +1,0 @@
--- `vectors::runs::step_to` meets its contract: the test of the answer, beside the job.
-use borrow.Author.Rules.{rules}
-use Rattle.vectors.proofs.runs.step_to.Goals as goal
-
-pub returns : goal.returns
-returns c = rw c.agrees.ensures
