@@ -1,9 +1,8 @@
 -- `sets::fill` meets its contract: the composites passed have their summaries at their places, each part of a node before it.
 use mathlib.Core.Path.{◌≡◌, refl}
-use Prim.Native.Nat.{◌-◌}
 use native.Mathlib.Omega.{arith}
 use Rattle.nodes.specs.Nodes.{count}
-use Rattle.sets.proofs.Filling.{Filling, filling_none, placed_more, filling_more}
+use Rattle.sets.proofs.Filling.{filling_none, placed_more, filling_more}
 use Rattle.sets.proofs.fill.Goals as goal
 
 pub loop-i-init : goal.loop-i-init
@@ -24,11 +23,10 @@ pub loop-i-smaller : goal.loop-i-smaller
 loop-i-smaller c = omega arith
 
 pub loop-i-preserved : goal.loop-i-preserved
-loop-i-preserved c =
-    (
-      refl,
-      filling_more c.args.types.now c.args.nodes.now c.args.work.now c.loop-i.i c.loop-i.k _ c.loop-i.places c.loop-i.work _ (omega arith) (omega (arith, c.requires.0.nodes_few)) c.loop-i.invariant.1 c.step-k.ensures,
-    )
+loop-i-preserved c = (
+  refl,
+  filling_more c.args.types.now c.args.nodes.now c.args.work.now c.loop-i.i c.loop-i.k _ c.loop-i.places c.loop-i.work _ (omega arith) (omega (arith, c.requires.0.nodes_few)) c.loop-i.invariant.1 c.step-k.ensures,
+)
 
 pub overflow_sub-n : goal.overflow_sub-n
 overflow_sub-n c = omega (arith, c.requires.0.nodes_some)

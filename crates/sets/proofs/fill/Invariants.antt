@@ -1,9 +1,8 @@
 -- `sets::fill` meets its contract: the composites passed have their summaries at their places, each part of a node before it.
-use mathlib.Core.Path.{◌≡◌, refl}
+use mathlib.Core.Path.{◌≡◌}
 use Prim.Native.Nat.{◌-◌}
-use native.Mathlib.Omega.{arith}
 use Rattle.nodes.specs.Nodes.{count}
-use Rattle.sets.proofs.Filling.{Filling, filling_none, placed_more, filling_more}
+use Rattle.sets.proofs.Filling.{Filling}
 use Rattle.sets.proofs.fill.Given as goal
 
 abbrev pub invariant-loop-i : goal.invariant-loop-i

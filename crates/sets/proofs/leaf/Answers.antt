@@ -1,5 +1,4 @@
 -- `sets::leaf` meets its contract.
-use borrow.Author.Rules.{rules}
 use Rattle.sets.proofs.Nodes.{action_small, leaf_exact}
 use Rattle.sets.proofs.leaf.Goals as goal
 

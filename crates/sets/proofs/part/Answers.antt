@@ -1,7 +1,6 @@
 -- `sets::part` meets its contract: a leaf's summary by its node, a composite's as the area holds it at its place.
 use mathlib.Core.Path.{◌∙◌, ap, subst⁻¹}
 use native.Mathlib.Omega.{arith}
-use borrow.Author.Rules.{rules}
 use Rattle.plan.specs.Tree.{process_at}
 use Rattle.summary.specs.declared.Summary.{Summary}
 use Rattle.summary.specs.Exact.{Exact}

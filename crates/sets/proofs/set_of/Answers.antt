@@ -1,11 +1,9 @@
 -- `sets::set_of` meets its contract.
-use mathlib.Core.Path.{◌≡◌, sym, ◌∙◌}
+use mathlib.Core.Path.{◌∙◌}
 use Prim.Native.Nat.{◌<◌}
 use native.Mathlib.Omega.{arith}
-use borrow.Author.Rules.{rules}
-use borrow.Author.Tests.{eqb-true, eq-eqb, ne_eqb}
+use borrow.Author.Tests.{eq-eqb, ne_eqb}
 use Rattle.family.proofs.Bits.{one_shifted}
-use Rattle.nodes.specs.Nodes.{left}
 use Rattle.sets.proofs.set_of.Goals as goal
 
 pub overflow_shl-result : goal.overflow_shl-result

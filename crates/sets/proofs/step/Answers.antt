@@ -1,7 +1,6 @@
 -- `sets::step` meets its contract: a leaf is passed over, a composite's summary is stored at its place.
 use mathlib.Core.Path.{◌∙◌}
 use native.Mathlib.Omega.{arith}
-use borrow.Author.Rules.{rules}
 use Rattle.sets.proofs.Places.{places_grow, few_places}
 use Rattle.sets.proofs.Filling.{store_long, stepped_leaf, stepped_node}
 use Rattle.sets.proofs.step.Goals as goal

@@ -1,6 +1,5 @@
 -- `sets::summary_of` meets its contract: both parts stand before the composite.
 use native.Mathlib.Omega.{arith}
-use borrow.Author.Rules.{rules}
 use Rattle.outcomes.proofs.InRows.{cell_in_rows}
 use Rattle.plan.proofs.Tree.{parts_smaller}
 use Rattle.sets.proofs.Nodes.{node_exact}
