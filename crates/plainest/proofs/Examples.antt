@@ -1,7 +1,6 @@
 -- Record bytes, failed entries and byte order on examples: a throw's entry counts, of two runs the one whose lower leaf comes first is first, and finished comes before failed.
 use mathlib.Core.Path.{◌≡◌, refl}
-use mathlib.Core.List.{List, [], ◌∷◌, ◌++◌}
-use Prim.Native.Nat.{ℕ}
+use mathlib.Core.List.{[], ◌∷◌, ◌++◌}
 use native.Mathlib.Omega.{arith}
 use lib.ListN.{replicate}
 use Rattle.process.specs.Process.{ok, fail, fails, Process, leaf, entry, Run}

@@ -4,7 +4,6 @@ use lib.ListN.{length-set, set}
 use Rattle.plainest.specs.Shown.{fewest_left}
 use Rattle.plainest.proofs.Asked.{same_test, searchable, asked}
 use native.Mathlib.Omega.{arith}
-use borrow.Author.Rules.{rules}
 use Rattle.plainest.proofs.fits.Goals as goal
 
 pub fewest-requires : goal.fewest-requires

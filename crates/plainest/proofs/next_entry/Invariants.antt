@@ -1,13 +1,8 @@
 -- `plainest::next_entry` meets its contract: none of the leaves that were passed has an outcome.
-use mathlib.Core.Path.{◌≡◌, refl, sym, ◌∙◌}
-use mathlib.Core.List.{List}
-use Prim.Native.Nat.{ℕ, suc, ◌+◌, ◌-◌, ◌≤◌, ◌<◌}
-use native.Mathlib.Numerals.{add-one}
-use borrow.Author.Tests.{eq-eqb, ne_eqb}
+use mathlib.Core.Path.{◌≡◌}
+use Prim.Native.Nat.{◌-◌, ◌≤◌}
 use Rattle.nodes.specs.Nodes.{count}
-use Rattle.plainest.specs.Shown.{outcome_for, entry_from}
-use borrow.Author.Rules.{rules}
-use native.Mathlib.Omega.{arith}
+use Rattle.plainest.specs.Shown.{entry_from}
 use Rattle.plainest.proofs.next_entry.Given as goal
 
 abbrev pub invariant-loop-i : goal.invariant-loop-i

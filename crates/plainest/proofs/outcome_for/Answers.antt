@@ -1,7 +1,6 @@
 -- `plainest::outcome_for` meets its contract: each return by the tests that led there.
 use mathlib.Core.Path.{sym, ◌∙◌}
 use borrow.Author.Tests.{eq-eqb, ne_eqb}
-use borrow.Author.Rules.{rules}
 use Rattle.plainest.proofs.outcome_for.Goals as goal
 
 pub returns-then-next-n-ne1 : goal.returns-then-next-n-ne1

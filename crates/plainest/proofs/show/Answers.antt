@@ -1,14 +1,13 @@
 -- `plainest::show` meets its contract: the entries so far are written, and the table is the one after them.
 use mathlib.Core.Path.{◌≡◌, refl}
-use Prim.Native.Nat.{◌-◌, ◌≤◌, ◌<◌, min}
+use Prim.Native.Nat.{◌-◌, min}
 use native.Mathlib.Omega.{arith}
-use lib.ListN.{length, set, length-set}
-use borrow.Author.Rules.{rules}
+use lib.ListN.{length-set}
 use Rattle.state.specs.State.{fresh_table}
 use Rattle.fewest.specs.Costs.{unreached}
 use Rattle.plainest.specs.Shown.{fewest_left, entries_after, plainest_bytes}
 use Rattle.plainest.proofs.Asked.{searchable, asked, known}
-use Rattle.plainest.proofs.Written.{next_proper, Written, written_none, written_all, none_more, written_more}
+use Rattle.plainest.proofs.Written.{next_proper, written_none, written_all, none_more, written_more}
 use Rattle.plainest.proofs.show.Goals as goal
 
 pub fewest-k-requires : goal.fewest-k-requires

@@ -1,14 +1,11 @@
 -- `plainest::show` meets its contract: the entries so far are written, and the table is the one after them.
-use mathlib.Core.Path.{◌≡◌, refl}
-use Prim.Native.Nat.{◌-◌, ◌≤◌, ◌<◌, min}
-use native.Mathlib.Omega.{arith}
-use lib.ListN.{length, set, length-set}
-use borrow.Author.Rules.{rules}
+use mathlib.Core.Path.{◌≡◌}
+use Prim.Native.Nat.{◌-◌, ◌≤◌, ◌<◌}
+use lib.ListN.{length}
 use Rattle.state.specs.State.{fresh_table}
 use Rattle.fewest.specs.Costs.{unreached}
-use Rattle.plainest.specs.Shown.{fewest_left, entries_after, plainest_bytes}
-use Rattle.plainest.proofs.Asked.{searchable, asked, known}
-use Rattle.plainest.proofs.Written.{next_proper, Written, written_none, written_all, none_more, written_more}
+use Rattle.plainest.specs.Shown.{fewest_left}
+use Rattle.plainest.proofs.Written.{Written}
 use Rattle.plainest.proofs.show.Given as goal
 
 abbrev pub invariant-loop-i : goal.invariant-loop-i
