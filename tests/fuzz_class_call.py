@@ -1,7 +1,7 @@
 #!/usr/bin/env python3
 """Calls the C function vodjimar_class on classes made at random and compares it with the model: tests/fuzz_class_call.py MODEL COUNT SEED
 
-MODEL is the folder of the model (plans.py says which). The library must have been built, by `rt lib ffi`; gcc makes a shared object of it. The two lent
+MODEL is the folder of the model (plans.py says which). The library must have been built, by `rt lib` in crates/ffi; gcc makes a shared object of it. The two lent
 areas are of any length and full of any bytes, and each stands before a margin: the answer, every byte of both areas and of the margins, and those of the input have
 to be what the model has (classes.py). The script ends with status 1 at the first call on which something differs, and prints it.
 """

@@ -1,4 +1,4 @@
-// The verdict, and the call for a whole class, for callers in C and Rust: `rt lib ffi` makes the library. A slice passes as a pointer and then a length.
+// The verdict, and the call for a whole class, for callers in C and Rust: `rt lib` makes the library. A slice passes as a pointer and then a length.
 #![tactic(auto)]
 
 ghost use Rattle.ffi.specs.Export.{Exported, ExportedClass};
