@@ -3,7 +3,7 @@ use mathlib.Core.Path.{◌≡◌, refl, ap, ◌∙◌}
 use mathlib.Core.List.{List, [], ◌∷◌, ◌++◌, map}
 use Prim.Native.Nat.{ℕ, zero, suc, ◌-◌}
 use lib.ListN.{length, replicate}
-use Rattle.process.specs.Process.{ok, fail, Entry, entry, Run}
+use Rattle.process.specs.Process.{ok, fail, entry, Run}
 use Rattle.state.specs.declared.Entry as bytes
 use Rattle.job.specs.Offer.{run_entry}
 use Rattle.job.specs.Lists.{offered}

@@ -1,5 +1,5 @@
 -- On every input some answer meets the contract of `verdict`: the one that is computed. Where it gives a set, a complete run leaves it, and the plainest is shown.
-use mathlib.Core.Path.{◌≡◌, refl, ap}
+use mathlib.Core.Path.{◌≡◌, refl}
 use mathlib.Core.Bool.{Bool, true, false, not, cond}
 use mathlib.Core.List.{List, Memᴰ}
 use Prim.Native.Nat.{ℕ}
@@ -12,12 +12,12 @@ use Rattle.plan.specs.declared.Reading.TheVariants as reading
 use Rattle.least.specs.declared.Least.{Least}
 use Rattle.least.specs.declared.Least.TheVariants.{Found, Nothing}
 use Rattle.plainest.specs.Shown.{LeftBy}
-use Rattle.judge.specs.Verdict.{work_size, record_size, smallest, answer_of, keeps_rule, plan_sets_of, verdict_on, verdict_of}
+use Rattle.judge.specs.Verdict.{work_size, record_size, smallest, answer_of, keeps_rule, plan_sets_of, verdict_on}
 use Rattle.judge.specs.Shown.{ShowsRun}
 use Rattle.judge.specs.Judged.{RecordAfter}
 use Rattle.judge.specs.Record.{shown_on, record_for, SomeAnswer}
 use Rattle.judge.specs.declared.Judgement.{Judgement}
-use Rattle.judge.specs.declared.Judgement.TheVariants.{Consistent, Violated, Refused}
+use Rattle.judge.specs.declared.Judgement.TheVariants.{Refused}
 use Rattle.judge.proofs.Smallest.{Tells, smallest_tells}
 use Rattle.judge.proofs.PlanRuns.{left_by}
 use Rattle.judge.proofs.Plain.{shows_plainest}

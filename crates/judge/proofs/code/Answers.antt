@@ -1,6 +1,4 @@
 -- `judge::code` meets its contract.
-use native.Mathlib.Omega.{arith}
-use borrow.Author.Rules.{rules}
 use Rattle.judge.proofs.code.Goals as goal
 
 pub returns-in-Violated : goal.returns-in-Violated

@@ -2,7 +2,6 @@
 -- breaks the rule is sought among its final ones. `Judging` has what follows, for each answer.
 use mathlib.Core.Path.{refl}
 use Rattle.least.specs.declared.Least.TheVariants.{Found, Nothing}
-use borrow.Author.Rules.{rules}
 use Rattle.judge.proofs.Plain.{left_small}
 use Rattle.judge.proofs.Judging.{found_left, judged_plan}
 use Rattle.judge.proofs.judge.Goals as goal

@@ -1,8 +1,6 @@
 -- `judge::judge_file` meets its contract: the bodies lie inside the file, the plan is judged, the areas are written; `File` joins these.
-use native.Mathlib.Omega.{arith}
 use Rattle.plan.proofs.Inside.{types_inside, pairs_inside, nodes_inside, rule_inside}
 use Rattle.plan.proofs.Demand1.{runnable}
-use borrow.Author.Rules.{rules}
 use Rattle.judge.proofs.File.{judged_file}
 use Rattle.judge.proofs.judge_file.Goals as goal
 

@@ -1,8 +1,7 @@
 -- `judge::verdict` meets its contract: each refusal in its order changes nothing, and an accepted file is judged.
 use native.Mathlib.Omega.{arith}
-use mathlib.Core.Path.{refl, sym, ◌∙◌}
+use mathlib.Core.Path.{refl, sym}
 use lib.ListN.{length}
-use borrow.Author.Rules.{rules}
 use Rattle.judge.proofs.Demand3.{short_work, short_record, refused_file}
 use Rattle.judge.proofs.verdict.Goals as goal
 
