@@ -1,7 +1,6 @@
 -- `fields::answer::is_answer` meets its contract: each return by the tests that led there.
 use borrow.Author.Tests.{eq-eqb, ne_eqb}
 use Rattle.fields.specs.Answer.{is_answer}
-use borrow.Author.Rules.{rules}
 use Rattle.fields.proofs.answer.is_answer.Goals as goal
 
 pub returns-then-number_in-wide : goal.returns-then-number_in-wide

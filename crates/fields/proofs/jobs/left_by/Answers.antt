@@ -1,5 +1,4 @@
 -- `fields::jobs::left_by` meets its contract: each return by the test that led there.
-use borrow.Author.Rules.{rules}
 use borrow.Author.Tests.{eq-eqb, ne_eqb}
 use Rattle.fields.specs.Jobs.{left_by}
 use Rattle.fields.proofs.jobs.left_by.Goals as goal

@@ -1,5 +1,4 @@
 -- `fields::jobs::same_area` meets its contract: each return by the test that led there.
-use borrow.Author.Rules.{rules}
 use borrow.Author.Tests.{eq-eqb, ne_eqb}
 use Rattle.fields.specs.Jobs.{same_area}
 use Rattle.fields.proofs.jobs.same_area.Goals as goal

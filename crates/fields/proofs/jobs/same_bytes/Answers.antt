@@ -1,13 +1,13 @@
 -- `fields::jobs::same_bytes` meets its contract: each byte passed is the same in both areas.
 use mathlib.Core.Bool.{Bool}
 use mathlib.Core.List.{List}
-use mathlib.Core.Path.{◌≡◌, sym}
-use Prim.Native.Nat.{ℕ, ◌-◌}
+use mathlib.Core.Path.{sym}
+use Prim.Native.Nat.{ℕ}
 use native.Mathlib.Omega.{arith}
 use lib.Dec.{eqb}
 use lib.ListN.{length, get_or}
 use borrow.Author.Tests.{eq-eqb, ne_eqb}
-use Rattle.blocks.proofs.Bounded.{every_fails, Passed, passed_none, passed_more, passed_all}
+use Rattle.blocks.proofs.Bounded.{every_fails, passed_none, passed_more, passed_all}
 use Rattle.fields.specs.Jobs.{same_bytes}
 use Rattle.fields.proofs.jobs.same_bytes.Goals as goal
 

@@ -1,9 +1,4 @@
 -- `fields::jobs::same_job` meets its contract: each return by the tests that led there.
-use mathlib.Core.Path.{◌≡◌}
-use mathlib.Core.Bool.{Bool, ◌&&◌, beq}
-use lib.Dec.{eqb}
-use borrow.Author.Rules.{rules}
-use Rattle.job.specs.declared.Job.{Job}
 use Rattle.fields.specs.Jobs.{same_job}
 use Rattle.fields.proofs.jobs.same_job.Goals as goal
 

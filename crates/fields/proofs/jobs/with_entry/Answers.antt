@@ -1,5 +1,4 @@
 -- `fields::jobs::with_entry` meets its contract: each return by the test that led there.
-use borrow.Author.Rules.{rules}
 use borrow.Author.Tests.{lt-ltb, le-ltb}
 use Rattle.fields.proofs.jobs.with_entry.Goals as goal
 
