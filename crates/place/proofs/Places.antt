@@ -1,11 +1,11 @@
 -- A plan's place: it is what the plan gets alone, whatever the areas; there is one, and it has 130 bytes.
 use mathlib.Core.Path.{◌≡◌, refl, sym, ap, ap₂, subst, ◌∙◌}
 use mathlib.Core.Bool.{Bool, true, false, not, ◌||◌, true≢false}
-use mathlib.Core.List.{List, [], ◌∷◌, ◌++◌, append-nil, append_assoc}
-use Prim.Native.Nat.{ℕ, ◌+◌, ◌-◌, ◌*◌, ◌≤◌, ◌<◌}
+use mathlib.Core.List.{List, [], ◌++◌, append-nil, append_assoc}
+use Prim.Native.Nat.{ℕ, ◌+◌, ◌-◌, ◌≤◌, ◌<◌}
 use native.Mathlib.Omega.{arith}
 use lib.ListN.{length, take, drop, replicate, length-append, length-drop, length-replicate, length-map, take-append-drop, drop_of_length-le}
-use lib.Seq.{take_at, drop_at, take_all, length-take-le, drop-drop}
+use lib.Seq.{take_at, drop_at, take_all, length-take-le}
 use borrow.Author.Tests.{le-leb}
 use Rattle.blocks.specs.Area.{written}
 use Rattle.job.specs.Offer.{run_entry}

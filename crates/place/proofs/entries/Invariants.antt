@@ -1,12 +1,9 @@
 -- `class::entries` meets its contract. The invariant: those of the whole run are i, and then those of the bytes after i entries.
-use mathlib.Core.Path.{◌≡◌, refl, sym, ◌∙◌}
+use mathlib.Core.Path.{◌≡◌}
 use Prim.Native.Nat.{◌*◌, ◌+◌, ◌-◌, ◌≤◌}
 use lib.ListN.{length, drop, take}
-use native.Mathlib.Omega.{arith}
-use borrow.Author.Rules.{rules}
 use Rattle.judge.specs.Verdict.{record_size}
 use Rattle.judge.specs.Shown.{shown_entries}
-use Rattle.place.proofs.Shown.{entries_stop, entries_go, entries_over}
 use Rattle.place.proofs.entries.Given as goal
 
 abbrev pub invariant-loop-i : goal.invariant-loop-i

@@ -1,8 +1,5 @@
 -- `class::fill` meets its contract: the record bytes are cleared, the part after the first four is lent to the verdict, and comes back.
-use mathlib.Core.Path.{◌≡◌, sym, ap, ◌∙◌}
-use lib.ListN.{length, length-append}
-use native.Mathlib.Omega.{arith}
-use borrow.Author.Rules.{rules}
+use mathlib.Core.Path.{ap, ◌∙◌}
 use Rattle.place.specs.Work.{clears_work}
 use Rattle.place.proofs.Places.{set_small, verdict_is, work_is, filled}
 use Rattle.place.proofs.fill.Goals as goal

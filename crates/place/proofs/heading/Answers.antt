@@ -1,11 +1,9 @@
 -- `class::heading` meets its contract, case by case.
-use mathlib.Core.Path.{◌≡◌, refl, sym, ap, ap₂}
+use mathlib.Core.Path.{ap, ap₂}
 use mathlib.Core.List.{[], ◌∷◌}
-use Prim.Native.Nat.{ℕ, ◌<◌, ◌/◌, ◌%◌}
+use Prim.Native.Nat.{ℕ, ◌<◌}
 use native.Mathlib.Omega.{arith}
 use Rattle.judge.specs.Verdict.{set_given}
-use Rattle.judge.specs.declared.Judgement.{Judgement}
-use borrow.Author.Rules.{rules}
 use Rattle.place.proofs.heading.Goals as goal
 
 pub overflow_cast-result-in-Violated : goal.overflow_cast-result-in-Violated
