@@ -6,7 +6,7 @@ use native.Mathlib.Omega.{arith}
 use lib.ListN.{length, take, drop, length-append, length-drop, drop_of_length-le}
 use lib.Seq.{take_at, drop_at, take_all, drop-drop, append_snoc}
 use Rattle.blocks.specs.Block.{le16}
-use Rattle.handed.specs.Files.{Ahead, Holds}
+use Rattle.handed.specs.Files.{Holds}
 use Rattle.place.specs.Place.{place_size, Places, none, joined, PlaceAfter}
 use Rattle.handed.specs.Cursor.{file_at, Ends}
 use Rattle.class.specs.Steps.{Ready, PlacesAfter}

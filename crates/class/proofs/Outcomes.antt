@@ -2,7 +2,7 @@
 use mathlib.Core.Path.{◌≡◌, refl, sym, ap, ap₂, subst, ◌∙◌}
 use mathlib.Core.Bool.{Bool, true, false, cond}
 use mathlib.Core.Logic.{◌⊎◌, inl, inr}
-use mathlib.Core.List.{List, [], ◌∷◌, ◌++◌, map}
+use mathlib.Core.List.{List, ◌++◌, map}
 use mathlib.Core.Option.{Option, none, some}
 use Prim.Native.Nat.{ℕ, ◌*◌, ◌≤◌}
 use native.Mathlib.Omega.{arith}
@@ -18,7 +18,6 @@ use Rattle.class.specs.Steps.{PlacesAfter}
 use Rattle.class.specs.Outcome.{RefusedBy, no_work, no_class, no_room, Unchanged, AllFilled, Outcome, Same, OneOutcome}
 use Rattle.handed.specs.Reading.{files_of}
 use Rattle.class.specs.Computed.{with_room, answer_of, work_of, area_of, SomeOutcome}
-use Rattle.class.specs.declared.Answer.{Answer}
 use Rattle.class.specs.declared.Answer.TheVariants.{Filled, Refused}
 use Rattle.handed.proofs.Files.{one_list}
 use Rattle.handed.proofs.Reading.{files_held, files_few, no_files}

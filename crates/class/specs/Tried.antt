@@ -1,6 +1,6 @@
 -- Inputs, and what is said to them, with a work area of so many bytes and an answer area of so many: the number that refuses the call, or the files whose places
 -- are filled. By `SomeOutcome` and `OneOutcome` this is the outcome.
-use Rattle.std.specs.Prelude.{◌≡◌, List, [], ◌∷◌, ℕ, replicate}
+use Rattle.std.specs.Prelude.{◌≡◌, [], ◌∷◌, replicate}
 use Rattle.std.proofs.Common.{inl, inr}
 use Rattle.class.specs.Computed.{call_of}
 

@@ -1,5 +1,4 @@
 -- `class::code` meets its contract, case by case.
-use borrow.Author.Rules.{rules}
 use Rattle.class.proofs.code.Goals as goal
 
 pub returns-in-Filled : goal.returns-in-Filled

@@ -1,13 +1,9 @@
 -- `class::fill_all` meets its contract. The invariant: the files before the cursor have their places, and the work area is cleared where a verdict has cleared it (`Sofar`).
-use mathlib.Core.Path.{◌≡◌, refl, sym, ap, ◌∙◌}
-use mathlib.Core.Bool.{Bool}
-use Prim.Native.Nat.{◌+◌, ◌-◌, ◌≤◌}
+use mathlib.Core.Path.{◌≡◌}
+use Prim.Native.Nat.{◌-◌}
 use lib.ListN.{length}
-use native.Mathlib.Omega.{arith}
-use borrow.Author.Rules.{rules}
 use Rattle.place.specs.Work.{work_left}
-use Rattle.place.proofs.Places.{left_more, left_long}
-use Rattle.class.proofs.Filling.{Sofar, sofar_none, cursor, enough, lent_room, sofar_more, sofar_all}
+use Rattle.class.proofs.Filling.{Sofar}
 use Rattle.class.proofs.fill_all.Given as goal
 
 abbrev pub invariant-loop-at : goal.invariant-loop-at

@@ -1,11 +1,9 @@
 -- `class::verdicts` meets its contract: each refusal in its order changes nothing; else each place is filled, and the work area is cleared where no verdict has done so.
-use mathlib.Core.Path.{◌≡◌, refl, sym, ap, subst, ◌∙◌}
+use mathlib.Core.Path.{◌≡◌, refl, ap, subst, ◌∙◌}
 use mathlib.Core.Bool.{not}
-use Prim.Native.Nat.{◌≤◌}
 use lib.ListN.{length, drop}
 use Rattle.judge.specs.Verdict.{work_size}
 use native.Mathlib.Omega.{arith}
-use borrow.Author.Rules.{rules}
 use Rattle.judge.proofs.Areas.{cleared}
 use Rattle.class.specs.Outcome.{no_work, no_class, no_room}
 use Rattle.handed.specs.Cursor.{Counted, CountOf}
