@@ -2,7 +2,6 @@
 -- outcome and minute, one blank between each two, the minute a number up to 4294967295. A number is its digits alone, with no zero before
 -- another digit. The definitions read a line byte by byte; Entries.antt says which lines those are that they read as one or the other.
 use Rattle.std.specs.Prelude.{Bool, true, cond, List, [], ◌∷◌, ℕ, ◌+◌, ◌-◌, ◌*◌, ltb, eqb}
-use Rattle.state.specs.declared.Entry.{Entry}
 use Rattle.session.specs.declared.line.Number.{Number}
 use Rattle.session.specs.declared.line.Number.TheVariants.{Unwritten, Is, Wrong}
 use Rattle.session.specs.declared.line.Line.{Line}

@@ -4,7 +4,6 @@ use Rattle.text.proofs.Texts.{appended_empty}
 use Rattle.text.proofs.Ends.{put_alone, numbered_short}
 use Rattle.answers.proofs.Texts.{told_few}
 use native.Mathlib.Omega.{arith}
-use borrow.Author.Rules.{rules}
 use Rattle.answers.proofs.lines.Goals as goal
 
 pub returns-in-Told : goal.returns-in-Told

@@ -1,5 +1,4 @@
 -- `answers::put_end` meets its contract: a line for each end.
-use borrow.Author.Rules.{rules}
 use Rattle.answers.proofs.put_end.Goals as goal
 
 pub returns-in-Open : goal.returns-in-Open

@@ -1,7 +1,6 @@
 -- `answers::put_leaf` meets its contract: by the test for the leaf's bit.
 use mathlib.Core.Path.{sym, ◌∙◌}
 use Rattle.answers.proofs.Texts.{leaf_comes, leaf_stays}
-use borrow.Author.Rules.{rules}
 use Rattle.answers.proofs.put_leaf.Goals as goal
 
 pub returns-then-comes_next : goal.returns-then-comes_next

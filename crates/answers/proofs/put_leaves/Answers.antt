@@ -1,11 +1,7 @@
 -- `answers::put_leaves` meets its contract. The invariant: what is left of the leaves, put into the text so far, gives what all of them give.
-use mathlib.Core.Path.{◌≡◌, sym, ◌∙◌}
-use Prim.Native.Nat.{◌-◌, ◌≤◌}
-use Rattle.text.specs.Text.{appended}
-use Rattle.text.specs.Lines.{each}
+use mathlib.Core.Path.{sym, ◌∙◌}
 use Rattle.text.proofs.Ends.{each_step, each_end}
 use Rattle.answers.specs.Lines.{leaf_text}
-use borrow.Author.Rules.{rules}
 use native.Mathlib.Omega.{arith}
 use Rattle.answers.proofs.put_leaves.Goals as goal
 

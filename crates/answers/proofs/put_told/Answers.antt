@@ -1,6 +1,5 @@
 -- `answers::put_told` meets its contract, by what each part that is put says.
 use Rattle.answers.proofs.Texts.{told_put}
-use borrow.Author.Rules.{rules}
 use Rattle.answers.proofs.put_told.Goals as goal
 
 pub returns : goal.returns

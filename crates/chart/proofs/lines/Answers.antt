@@ -3,7 +3,6 @@ use Rattle.text.proofs.Ends.{put_alone}
 use Rattle.chart.specs.Lines.{chart_lines}
 use Rattle.chart.proofs.Texts.{chart_room, five}
 use native.Mathlib.Omega.{arith}
-use borrow.Author.Rules.{rules}
 use Rattle.chart.proofs.lines.Goals as goal
 
 pub returns : goal.returns

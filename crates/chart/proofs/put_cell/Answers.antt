@@ -1,6 +1,5 @@
 -- `chart::put_cell` meets its contract: by the test whether the row goes on.
 use Rattle.chart.proofs.Texts.{within_row, row_ends}
-use borrow.Author.Rules.{rules}
 use Rattle.chart.proofs.put_cell.Goals as goal
 
 pub returns-then-right-lt6 : goal.returns-then-right-lt6

@@ -1,11 +1,7 @@
 -- `chart::put_cells` meets its contract. The invariant: what is left of the cells, put into the text so far, gives what all of them give.
-use mathlib.Core.Path.{◌≡◌, sym, ◌∙◌}
-use Prim.Native.Nat.{◌-◌, ◌≤◌}
-use Rattle.text.specs.Text.{appended}
-use Rattle.text.specs.Lines.{each}
+use mathlib.Core.Path.{sym, ◌∙◌}
 use Rattle.text.proofs.Ends.{each_step, each_end}
 use Rattle.chart.specs.Lines.{cell_text}
-use borrow.Author.Rules.{rules}
 use native.Mathlib.Omega.{arith}
 use Rattle.chart.proofs.put_cells.Goals as goal
 

@@ -1,7 +1,6 @@
 -- `chart::put_table` meets its contract: the name, and then the cells.
 use Rattle.text.proofs.Ends.{put_both}
 use Rattle.chart.specs.Lines.{table_text}
-use borrow.Author.Rules.{rules}
 use Rattle.chart.proofs.put_table.Goals as goal
 
 pub returns : goal.returns

@@ -1,5 +1,4 @@
 -- `session::answer` meets its contract, row by row.
-use borrow.Author.Rules.{rules}
 use Rattle.session.proofs.answer.Goals as goal
 
 pub returns-in-Entry : goal.returns-in-Entry

@@ -1,5 +1,4 @@
 -- `session::answered` meets its contract: answer and job are those that the runner hands back.
-use borrow.Author.Rules.{rules}
 use Rattle.session.proofs.answered.Goals as goal
 
 pub returns : goal.returns

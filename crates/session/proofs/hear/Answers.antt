@@ -1,6 +1,5 @@
 -- `session::hear` meets its contract: each return by the test that led there.
 use borrow.Author.Tests.{eq-eqb, ne_eqb}
-use borrow.Author.Rules.{rules}
 use Rattle.session.proofs.hear.Goals as goal
 
 pub returns-then-b-eq10 : goal.returns-then-b-eq10

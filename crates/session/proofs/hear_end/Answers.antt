@@ -1,6 +1,5 @@
 -- `session::hear_end` meets its contract: each return by the test that led there.
 use mathlib.Core.Path.{sym, ◌∙◌}
-use borrow.Author.Rules.{rules}
 use Rattle.session.proofs.hear_end.Goals as goal
 
 pub returns-then-has_begun : goal.returns-then-has_begun

@@ -1,7 +1,6 @@
 -- `session::hear_timed` meets its contract: each return by whether the job is timed.
 use mathlib.Core.Path.{ap, sym, ◌∙◌}
 use mathlib.Core.Bool.{Bool, cond}
-use borrow.Author.Rules.{rules}
 use Rattle.job.specs.Timed.{take_timed_of}
 use Rattle.session.specs.Session.{heard_no_entry, heard_answer}
 use Rattle.session.proofs.hear_timed.Goals as goal

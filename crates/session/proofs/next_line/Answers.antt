@@ -1,5 +1,4 @@
 -- `session::next_line` meets its contract: the line is a fresh one.
-use borrow.Author.Rules.{rules}
 use Rattle.session.proofs.next_line.Goals as goal
 
 pub returns : goal.returns

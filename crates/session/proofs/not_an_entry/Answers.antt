@@ -1,5 +1,4 @@
 -- `session::not_an_entry` meets its contract: the line is a fresh one.
-use borrow.Author.Rules.{rules}
 use Rattle.session.proofs.not_an_entry.Goals as goal
 
 pub returns : goal.returns

@@ -3,7 +3,6 @@ use mathlib.Core.List.{[]}
 use Rattle.text.specs.Text.{appended}
 use Rattle.text.proofs.Texts.{appended_empty}
 use native.Mathlib.Omega.{arith}
-use borrow.Author.Rules.{rules}
 use Rattle.session.proofs.text_of.Goals as goal
 
 pub returns-in-Nothing : goal.returns-in-Nothing

@@ -1,6 +1,5 @@
 -- `session::line::after` meets its contract: each return by the tests that led there.
 use borrow.Author.Tests.{eq-eqb, ne_eqb}
-use borrow.Author.Rules.{rules}
 use Rattle.session.proofs.line.after.Goals as goal
 
 pub returns-then-b-eq32 : goal.returns-then-b-eq32

@@ -1,5 +1,4 @@
 -- `session::line::digit` meets its contract, row by row.
-use borrow.Author.Rules.{rules}
 use Rattle.session.proofs.line.digit.Goals as goal
 
 pub returns-in-Unwritten : goal.returns-in-Unwritten

@@ -1,6 +1,5 @@
 -- `session::line::entry_of` meets its contract: each return by the test that led there.
 use borrow.Author.Tests.{lt-ltb, le-ltb}
-use borrow.Author.Rules.{rules}
 use Rattle.session.proofs.line.entry_of.Goals as goal
 
 pub returns-then-line-lt2 : goal.returns-then-line-lt2

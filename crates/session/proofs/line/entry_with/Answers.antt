@@ -1,6 +1,5 @@
 -- `session::line::entry_with` meets its contract: each return by the tests that led there.
 use borrow.Author.Tests.{lt-ltb, le-ltb}
-use borrow.Author.Rules.{rules}
 use Rattle.session.proofs.line.entry_with.Goals as goal
 
 pub returns-then-leaf-gt255 : goal.returns-then-leaf-gt255

@@ -1,6 +1,5 @@
 -- `session::line::first_digit` meets its contract: each return by the tests that led there.
 use borrow.Author.Tests.{lt-ltb, le-ltb}
-use borrow.Author.Rules.{rules}
 use Rattle.session.proofs.line.first_digit.Goals as goal
 
 pub returns-then-b-lt48 : goal.returns-then-b-lt48

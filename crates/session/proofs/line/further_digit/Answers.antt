@@ -1,6 +1,5 @@
 -- `session::line::further_digit` meets its contract: each return by the tests that led there.
 use borrow.Author.Tests.{eq-eqb, ne_eqb, lt-ltb, le-ltb}
-use borrow.Author.Rules.{rules}
 use Rattle.session.proofs.line.further_digit.Goals as goal
 
 pub returns-then-n-eq0 : goal.returns-then-n-eq0

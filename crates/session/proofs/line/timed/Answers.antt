@@ -1,5 +1,4 @@
 -- `session::line::timed` meets its contract, row by row.
-use borrow.Author.Rules.{rules}
 use Rattle.session.proofs.line.timed.Goals as goal
 
 pub returns-in-Entry : goal.returns-in-Entry

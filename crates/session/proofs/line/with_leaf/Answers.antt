@@ -1,5 +1,4 @@
 -- `session::line::with_leaf` meets its contract, row by row.
-use borrow.Author.Rules.{rules}
 use Rattle.session.proofs.line.with_leaf.Goals as goal
 
 pub returns-in-Is : goal.returns-in-Is
