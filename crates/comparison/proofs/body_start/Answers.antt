@@ -1,7 +1,6 @@
 -- `comparison::body_start` meets its contract: what is named has its body start inside the file.
 use Rattle.comparison.proofs.Vectors.{named_says}
 use native.Mathlib.Omega.{arith}
-use borrow.Author.Rules.{rules}
 use Rattle.comparison.proofs.body_start.Goals as goal
 
 pub overflow_add-result : goal.overflow_add-result

@@ -1,14 +1,8 @@
 -- `comparison::compared` meets its contract. The invariant: what is left to compare, from where it stands, comes to what the whole comes to;
 -- and the counts stay within the number of vectors.
-use mathlib.Core.Path.{◌≡◌, refl, sym, ap, ◌∙◌}
-use mathlib.Core.Bool.{Bool}
+use mathlib.Core.Path.{◌≡◌}
 use Prim.Native.Nat.{◌+◌, ◌≤◌}
-use borrow.Author.Tests.{not-true, not-false}
-use Rattle.comparison.specs.Data.{counted, compared_from}
-use Rattle.comparison.specs.declared.Comparison.{Comparison}
-use Rattle.comparison.proofs.Vectors.{grows, counted_whole, goes_on, stops, at_end, not_at_end, too_short, all_compared}
-use borrow.Author.Rules.{rules}
-use native.Mathlib.Omega.{arith}
+use Rattle.comparison.specs.Data.{compared_from}
 use Rattle.comparison.proofs.compared.Given as goal
 
 abbrev pub invariant-loop-left : goal.invariant-loop-left

@@ -1,5 +1,4 @@
 -- `comparison::count` meets its contract: each arm of the match is its row of the definition.
-use borrow.Author.Rules.{rules}
 use Rattle.comparison.proofs.count.Goals as goal
 
 pub returns-in-Agrees : goal.returns-in-Agrees

@@ -1,7 +1,6 @@
 -- `comparison::end_of` meets its contract: a whole vector ends inside the file.
 use Rattle.comparison.proofs.Vectors.{whole_says}
 use native.Mathlib.Omega.{arith}
-use borrow.Author.Rules.{rules}
 use Rattle.comparison.proofs.end_of.Goals as goal
 
 pub body_start-requires : goal.body_start-requires

@@ -2,7 +2,6 @@
 use mathlib.Core.Path.{sym}
 use Rattle.comparison.proofs.Vectors.{named_by, too_long, not_there}
 use native.Mathlib.Omega.{arith}
-use borrow.Author.Rules.{rules}
 use Rattle.comparison.proofs.is_named.Goals as goal
 
 pub returns-then-n-gt64 : goal.returns-then-n-gt64

@@ -1,10 +1,8 @@
 -- `comparison::is_whole` meets its contract: each return by the tests that led there.
 use mathlib.Core.Path.{sym, ◌∙◌}
-use borrow.Author.Tests.{not-true, not-false}
 use Rattle.comparison.proofs.Vectors.{whole_by}
 use Rattle.comparison.specs.Data.{is_whole}
 use native.Mathlib.Omega.{arith}
-use borrow.Author.Rules.{rules}
 use Rattle.comparison.proofs.is_whole.Goals as goal
 
 pub returns-then-not-is_named : goal.returns-then-not-is_named

@@ -1,11 +1,9 @@
 -- `comparison::outcome_at` meets its contract: by the test that the vector is whole, and by the body that is compared.
 use mathlib.Core.Path.{sym, ap, ◌∙◌}
-use borrow.Author.Tests.{not-true, not-false}
 use Rattle.vectors.specs.Groups.{outcome_in}
 use Rattle.comparison.specs.Data.{outcome_at}
 use Rattle.comparison.proofs.Vectors.{whole_says, part_is}
 use native.Mathlib.Omega.{arith}
-use borrow.Author.Rules.{rules}
 use Rattle.comparison.proofs.outcome_at.Goals as goal
 
 pub returns-then-not-is_whole : goal.returns-then-not-is_whole

@@ -1,6 +1,5 @@
 -- `report::named_lines` meets its contract: the name's line, and then the verdict's.
 use mathlib.Core.Path.{ap, ◌∙◌}
-use borrow.Author.Rules.{rules}
 use Rattle.text.specs.Text.{appended}
 use Rattle.text.specs.Lines.{line}
 use Rattle.text.proofs.Ends.{put_both}

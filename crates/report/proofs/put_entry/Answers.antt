@@ -1,6 +1,5 @@
 -- `report::put_entry` meets its contract: the leaf, and then the rest of its line.
 use mathlib.Core.List.{◌∷◌}
-use borrow.Author.Rules.{rules}
 use Rattle.text.specs.Decimal.{decimal}
 use Rattle.text.specs.Lines.{line}
 use Rattle.text.proofs.Texts.{appended_both}

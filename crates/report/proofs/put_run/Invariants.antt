@@ -1,12 +1,9 @@
 -- `report::put_run` meets its contract. The invariant: the lines of what is left of the run, put into the text so far, give what all of them give to the first.
-use mathlib.Core.Path.{◌≡◌, sym, ◌∙◌}
+use mathlib.Core.Path.{◌≡◌}
 use Prim.Native.Nat.{◌*◌, ◌-◌, ◌≤◌}
-use lib.ListN.{length, drop}
-use native.Mathlib.Omega.{arith}
-use borrow.Author.Rules.{rules}
+use lib.ListN.{drop}
 use Rattle.text.specs.Text.{appended}
 use Rattle.report.specs.Lines.{run_lines}
-use Rattle.report.proofs.RunLines.{run_over, run_stops, run_goes}
 use Rattle.report.proofs.put_run.Given as goal
 
 abbrev pub invariant-loop-i : goal.invariant-loop-i

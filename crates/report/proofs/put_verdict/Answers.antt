@@ -1,5 +1,4 @@
 -- `report::put_verdict` meets its contract, answer by answer.
-use borrow.Author.Rules.{rules}
 use Rattle.text.proofs.Ends.{put_both}
 use Rattle.report.proofs.put_verdict.Goals as goal
 

@@ -1,6 +1,5 @@
 -- `sheet::judgement_in` meets its contract: each return by the tests that led there.
 use borrow.Author.Tests.{eq-eqb, ne_eqb}
-use borrow.Author.Rules.{rules}
 use Rattle.sheet.proofs.judgement_in.Goals as goal
 
 pub returns-then-kind-eq0 : goal.returns-then-kind-eq0

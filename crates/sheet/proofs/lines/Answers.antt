@@ -11,7 +11,6 @@ use Rattle.report.specs.Lines.{verdict_lines}
 use Rattle.sheet.specs.Lines.{plan_line, plan_lines}
 use Rattle.sheet.proofs.Lengths.{plan_room}
 use native.Mathlib.Omega.{arith}
-use borrow.Author.Rules.{rules}
 use Rattle.sheet.proofs.lines.Goals as goal
 
 pub returns-then-place-lt-PLACE : goal.returns-then-place-lt-PLACE

@@ -2,7 +2,6 @@
 use Rattle.text.specs.Lines.{numbered, refused}
 use Rattle.text.proofs.Ends.{put_alone, numbered_short}
 use native.Mathlib.Omega.{arith}
-use borrow.Author.Rules.{rules}
 use Rattle.sheet.proofs.refusal.Goals as goal
 
 pub returns : goal.returns

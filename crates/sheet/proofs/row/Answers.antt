@@ -8,7 +8,6 @@ use Rattle.text.proofs.Ends.{put_alone}
 use Rattle.sheet.specs.Row.{row_of, row_after_name}
 use Rattle.sheet.proofs.Lengths.{row_room}
 use native.Mathlib.Omega.{arith}
-use borrow.Author.Rules.{rules}
 use Rattle.sheet.proofs.row.Goals as goal
 
 pub returns-then-place-lt-PLACE : goal.returns-then-place-lt-PLACE

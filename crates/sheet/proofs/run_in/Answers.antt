@@ -7,7 +7,6 @@ use lib.Seq.{length-take-le}
 use Rattle.judge.proofs.Areas.{written_first}
 use Rattle.sheet.specs.Said.{run_in}
 use native.Mathlib.Omega.{arith}
-use borrow.Author.Rules.{rules}
 use Rattle.sheet.proofs.run_in.Goals as goal
 
 pub returns : goal.returns

@@ -1,5 +1,4 @@
 -- `vectors::compare` meets its contract, row by row.
-use borrow.Author.Rules.{rules}
 use Rattle.vectors.proofs.compare.Goals as goal
 
 pub returns-in-Files : goal.returns-in-Files

@@ -3,7 +3,6 @@ use mathlib.Core.Path.{ap, ◌∙◌}
 use Rattle.text.specs.Text.{text_of}
 use Rattle.comparison.specs.Lines.{lines_for}
 use Rattle.comparison.specs.declared.Comparison.{Comparison}
-use borrow.Author.Rules.{rules}
 use Rattle.comparison.proofs.lines.lines.Goals as goal
 
 pub returns : goal.returns

@@ -1,6 +1,5 @@
 -- `comparison::lines::lines_for` meets its contract: the lines have room in a text.
 use Rattle.comparison.proofs.Texts.{undamaged, also_damaged}
-use borrow.Author.Rules.{rules}
 use Rattle.comparison.proofs.lines.lines_for.Goals as goal
 
 pub returns-then-c : goal.returns-then-c

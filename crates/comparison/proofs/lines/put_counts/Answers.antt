@@ -1,6 +1,5 @@
 -- `comparison::lines::put_counts` meets its contract, by what each part that is put says.
 use Rattle.comparison.proofs.Texts.{counts_put}
-use borrow.Author.Rules.{rules}
 use Rattle.comparison.proofs.lines.put_counts.Goals as goal
 
 pub returns : goal.returns

@@ -1,7 +1,6 @@
 -- `comparison::lines::put_damage` meets its contract, by what each part that is put says.
 use Rattle.text.proofs.Texts.{appended_both}
 use Rattle.comparison.specs.Lines.{damage_line}
-use borrow.Author.Rules.{rules}
 use Rattle.comparison.proofs.lines.put_damage.Goals as goal
 
 pub returns : goal.returns

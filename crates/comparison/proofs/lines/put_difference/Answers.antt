@@ -1,6 +1,5 @@
 -- `comparison::lines::put_difference` meets its contract, by what each part that is put says.
 use Rattle.comparison.proofs.Texts.{difference_put}
-use borrow.Author.Rules.{rules}
 use Rattle.comparison.proofs.lines.put_difference.Goals as goal
 
 pub returns : goal.returns

@@ -1,12 +1,10 @@
 -- `comparison::lines::put_name` meets its contract: by the test that the name is there.
 use mathlib.Core.Path.{refl, sym, ap, ◌∙◌}
 use Prim.Native.Nat.{◌+◌}
-use borrow.Author.Tests.{not-true, not-false}
 use Rattle.text.specs.Text.{appended}
 use Rattle.comparison.specs.Data.{name_at}
 use Rattle.comparison.proofs.Vectors.{named_says, part_is}
 use native.Mathlib.Omega.{arith}
-use borrow.Author.Rules.{rules}
 use Rattle.comparison.proofs.lines.put_name.Goals as goal
 
 pub returns-then-not-is_named : goal.returns-then-not-is_named

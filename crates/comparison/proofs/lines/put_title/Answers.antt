@@ -1,5 +1,4 @@
 -- `comparison::lines::put_title` meets its contract: a word for each group.
-use borrow.Author.Rules.{rules}
 use Rattle.comparison.proofs.lines.put_title.Goals as goal
 
 pub returns-in-Files : goal.returns-in-Files

@@ -1,7 +1,6 @@
 -- `comparison::lines::with_difference` meets its contract: by the test whether a vector differs.
 use borrow.Author.Tests.{eq-eqb, ne_eqb}
 use Rattle.text.specs.Text.{appended}
-use borrow.Author.Rules.{rules}
 use Rattle.comparison.proofs.lines.with_difference.Goals as goal
 
 pub returns-then-d-eq0 : goal.returns-then-d-eq0

@@ -1,6 +1,5 @@
 -- `sheet::form::form_asked` meets its contract: each return by the tests that led there.
 use mathlib.Core.Path.{sym, ◌∙◌}
-use borrow.Author.Rules.{rules}
 use Rattle.sheet.proofs.form.form_asked.Goals as goal
 
 pub returns-then-is_word : goal.returns-then-is_word

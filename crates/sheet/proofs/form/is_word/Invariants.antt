@@ -1,11 +1,8 @@
 -- `sheet::form::is_word` meets its contract. The invariant: the words are the same exactly where what is left of them is.
-use mathlib.Core.Path.{◌≡◌, sym, ◌∙◌}
+use mathlib.Core.Path.{◌≡◌}
 use Prim.Native.Nat.{◌-◌, ◌≤◌}
 use lib.ListN.{length, drop}
 use Rattle.sheet.specs.Form.{same_word}
-use Rattle.sheet.proofs.Words.{other_length, all_same, one_other, one_same}
-use borrow.Author.Rules.{rules}
-use native.Mathlib.Omega.{arith}
 use Rattle.sheet.proofs.form.is_word.Given as goal
 
 abbrev pub invariant-loop-i : goal.invariant-loop-i

@@ -1,8 +1,5 @@
 -- `sheet::names::clean` meets its contract. The loop's invariant: the first i bytes are clean (`CleanTo`).
-use Prim.Native.Nat.{◌-◌}
-use lib.ListN.{length}
-use Rattle.sheet.proofs.Cleaning.{CleanTo, clean_none, clean_more, clean_all}
-use borrow.Author.Rules.{rules}
+use Rattle.sheet.proofs.Cleaning.{clean_none, clean_more, clean_all}
 use native.Mathlib.Omega.{arith}
 use Rattle.sheet.proofs.names.clean.Goals as goal
 

@@ -1,9 +1,7 @@
 -- `sheet::names::clean` meets its contract. The loop's invariant: the first i bytes are clean (`CleanTo`).
 use Prim.Native.Nat.{◌-◌}
 use lib.ListN.{length}
-use Rattle.sheet.proofs.Cleaning.{CleanTo, clean_none, clean_more, clean_all}
-use borrow.Author.Rules.{rules}
-use native.Mathlib.Omega.{arith}
+use Rattle.sheet.proofs.Cleaning.{CleanTo}
 use Rattle.sheet.proofs.names.clean.Given as goal
 
 abbrev pub invariant-loop-i : goal.invariant-loop-i

@@ -2,7 +2,6 @@
 use Rattle.text.proofs.Ends.{put_alone}
 use Rattle.sheet.specs.Row.{heading_line}
 use native.Mathlib.Omega.{arith}
-use borrow.Author.Rules.{rules}
 use Rattle.sheet.proofs.rows.heading.Goals as goal
 
 pub returns : goal.returns

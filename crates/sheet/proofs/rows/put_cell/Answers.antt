@@ -3,7 +3,6 @@ use mathlib.Core.Path.{sym, ◌∙◌}
 use Rattle.text.specs.Decimal.{decimal}
 use Rattle.sheet.specs.Row.{gap}
 use Rattle.sheet.proofs.Cells.{cell_parts}
-use borrow.Author.Rules.{rules}
 use Rattle.sheet.proofs.rows.put_cell.Goals as goal
 
 pub returns : goal.returns

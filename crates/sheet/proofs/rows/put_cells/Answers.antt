@@ -1,12 +1,7 @@
 -- `sheet::rows::put_cells` meets its contract. The invariant: the cells of what is left of the run, put into the text so far, give what all of them give to the first.
 use mathlib.Core.Path.{◌≡◌, sym, ◌∙◌}
-use Prim.Native.Nat.{◌-◌, ◌≤◌}
 use lib.ListN.{length}
-use Rattle.text.specs.Text.{appended}
-use Rattle.judge.specs.Shown.{shown_entries}
-use Rattle.sheet.specs.Row.{cells}
-use Rattle.sheet.proofs.Cells.{cells_from, cells_over, cells_stop, cells_go}
-use borrow.Author.Rules.{rules}
+use Rattle.sheet.proofs.Cells.{cells_over, cells_stop, cells_go}
 use native.Mathlib.Omega.{arith}
 use Rattle.sheet.proofs.rows.put_cells.Goals as goal
 

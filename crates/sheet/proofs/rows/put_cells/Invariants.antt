@@ -1,13 +1,10 @@
 -- `sheet::rows::put_cells` meets its contract. The invariant: the cells of what is left of the run, put into the text so far, give what all of them give to the first.
-use mathlib.Core.Path.{◌≡◌, sym, ◌∙◌}
+use mathlib.Core.Path.{◌≡◌}
 use Prim.Native.Nat.{◌-◌, ◌≤◌}
-use lib.ListN.{length}
 use Rattle.text.specs.Text.{appended}
 use Rattle.judge.specs.Shown.{shown_entries}
 use Rattle.sheet.specs.Row.{cells}
-use Rattle.sheet.proofs.Cells.{cells_from, cells_over, cells_stop, cells_go}
-use borrow.Author.Rules.{rules}
-use native.Mathlib.Omega.{arith}
+use Rattle.sheet.proofs.Cells.{cells_from}
 use Rattle.sheet.proofs.rows.put_cells.Given as goal
 
 abbrev pub invariant-loop-i : goal.invariant-loop-i

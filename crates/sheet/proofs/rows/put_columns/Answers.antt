@@ -2,7 +2,6 @@
 use mathlib.Core.Path.{◌∙◌}
 use Rattle.text.specs.Decimal.{decimal}
 use Rattle.sheet.proofs.Cells.{put_columns}
-use borrow.Author.Rules.{rules}
 use Rattle.sheet.proofs.rows.put_columns.Goals as goal
 
 pub returns : goal.returns

@@ -2,7 +2,6 @@
 use borrow.Author.Tests.{eq-eqb, ne_eqb}
 use Rattle.text.specs.Text.{appended}
 use Rattle.text.proofs.Texts.{appended_one}
-use borrow.Author.Rules.{rules}
 use Rattle.sheet.proofs.rows.put_gap.Goals as goal
 
 pub returns-then-i-eq0 : goal.returns-then-i-eq0

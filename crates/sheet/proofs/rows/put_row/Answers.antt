@@ -9,7 +9,6 @@ use Rattle.judge.specs.Shown.{shown_entries}
 use Rattle.report.specs.Lines.{violated}
 use Rattle.sheet.specs.Row.{cells}
 use Rattle.sheet.proofs.Cells.{columns_then}
-use borrow.Author.Rules.{rules}
 use Rattle.sheet.proofs.rows.put_row.Goals as goal
 
 pub returns-in-Consistent : goal.returns-in-Consistent

@@ -6,7 +6,6 @@ use Prim.Native.Nat.{ℕ, ◌-◌, ◌%◌}
 use native.Mathlib.Omega.{arith}
 use lib.ListN.{length, take}
 use lib.Seq.{length-take-le}
-use borrow.Author.Rules.{rules}
 use Rattle.class.specs.Outcome.{code_of}
 use Rattle.class.specs.Computed.{call_of, answer_of, area_of}
 use Rattle.vectors.proofs.Calls.{as_computed}

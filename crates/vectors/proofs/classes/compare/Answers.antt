@@ -4,7 +4,6 @@ use Prim.Native.Nat.{ℕ}
 use native.Mathlib.Omega.{arith}
 use lib.ListN.{length-replicate}
 use borrow.Author.Tests.{lt-ltb, le-ltb}
-use borrow.Author.Rules.{rules}
 use Rattle.judge.specs.Verdict.{work_size}
 use Rattle.vectors.proofs.Calls.{whole_body}
 use Rattle.vectors.proofs.classes.compare.Goals as goal

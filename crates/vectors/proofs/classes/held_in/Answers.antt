@@ -5,7 +5,6 @@ use Prim.Native.Nat.{ℕ, ◌+◌, ◌≤◌}
 use native.Mathlib.Omega.{arith}
 use lib.ListN.{length, take}
 use lib.Seq.{length-take-le, take_at}
-use borrow.Author.Rules.{rules}
 use Rattle.class.specs.Outcome.{code_of}
 use Rattle.class.specs.Computed.{answer_of, area_of}
 use Rattle.vectors.specs.Classes.{call_in}

@@ -2,7 +2,6 @@
 -- answers for the others.
 use mathlib.Core.Path.{ap, ◌∙◌}
 use mathlib.Core.Option.{get_or}
-use borrow.Author.Rules.{rules}
 use borrow.Author.Tests.{eq-eqb, ne_eqb}
 use Rattle.plan.specs.Reading.{read_of, number_of}
 use Rattle.plan.specs.declared.Reading.{Reading}

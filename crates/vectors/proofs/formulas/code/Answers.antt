@@ -1,5 +1,4 @@
 -- `vectors::formulas::code` meets its contract, row by row.
-use borrow.Author.Rules.{rules}
 use Rattle.vectors.proofs.formulas.code.Goals as goal
 
 pub returns-in-Refused : goal.returns-in-Refused

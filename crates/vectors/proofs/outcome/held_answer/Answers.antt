@@ -1,6 +1,5 @@
 -- `vectors::outcome::held_answer` meets its contract: each return by the test that led there.
 use borrow.Author.Tests.{eq-eqb, ne_eqb}
-use borrow.Author.Rules.{rules}
 use Rattle.vectors.proofs.outcome.held_answer.Goals as goal
 
 pub returns-then-expected-found : goal.returns-then-expected-found

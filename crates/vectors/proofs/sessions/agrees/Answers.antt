@@ -1,6 +1,5 @@
 -- `vectors::sessions::agrees` meets its contract: each return by the test that led there.
 use mathlib.Core.Path.{sym, ◌∙◌}
-use borrow.Author.Rules.{rules}
 use Rattle.vectors.specs.Runs.{agrees_at}
 use Rattle.vectors.proofs.sessions.agrees.Goals as goal
 

@@ -1,6 +1,5 @@
 -- `vectors::sessions::compare` meets its contract: each return by the tests that led there.
 use borrow.Author.Tests.{eq-eqb, ne_eqb}
-use borrow.Author.Rules.{rules}
 use Rattle.vectors.proofs.sessions.compare.Goals as goal
 
 pub returns-then-body-eq0 : goal.returns-then-body-eq0

@@ -1,7 +1,6 @@
 -- `vectors::sessions::continued` meets its contract: each return by the test that led there.
 use borrow.Author.Tests.{eq-eqb, ne_eqb}
 use Rattle.vectors.specs.Runs.{steps_outcome}
-use borrow.Author.Rules.{rules}
 use Rattle.vectors.proofs.sessions.continued.Goals as goal
 
 pub returns-then-left-ne0 : goal.returns-then-left-ne0

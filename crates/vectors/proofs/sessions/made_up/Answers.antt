@@ -1,7 +1,6 @@
 -- `vectors::sessions::made_up` meets its contract: each return by the test that led there.
 use borrow.Author.Tests.{le-leb, lt-leb}
 use Rattle.vectors.specs.Runs.{made_up_outcome}
-use borrow.Author.Rules.{rules}
 use Rattle.vectors.proofs.sessions.made_up.Goals as goal
 
 pub returns-then-s-lt-STEPS_AT : goal.returns-then-s-lt-STEPS_AT

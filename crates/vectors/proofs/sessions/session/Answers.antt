@@ -1,6 +1,5 @@
 -- `vectors::sessions::session` meets its contract: each return by the test that led there.
 use borrow.Author.Tests.{le-leb, lt-leb}
-use borrow.Author.Rules.{rules}
 use Rattle.vectors.specs.Runs.{session_outcome}
 use Rattle.vectors.proofs.Rest.{span}
 use Rattle.vectors.proofs.sessions.session.Goals as goal

@@ -1,7 +1,5 @@
 -- `vectors::sessions::started` meets its contract: each return by the test that led there.
 use mathlib.Core.Path.{sym, ◌∙◌}
-use borrow.Author.Tests.{not-true, not-false}
-use borrow.Author.Rules.{rules}
 use Rattle.vectors.specs.Runs.{started_with}
 use Rattle.vectors.proofs.sessions.started.Goals as goal
 

@@ -1,6 +1,5 @@
 -- `vectors::sessions::step` meets its contract: answer and job are those that the runner hands back, asked with the minute or without one.
 use borrow.Author.Tests.{eq-eqb, ne_eqb}
-use borrow.Author.Rules.{rules}
 use Rattle.vectors.specs.Runs.{stepped}
 use Rattle.vectors.proofs.sessions.step.Goals as goal
 

@@ -1,5 +1,4 @@
 -- `vectors::sessions::step_to` meets its contract: the test of the answer, beside the job.
-use borrow.Author.Rules.{rules}
 use Rattle.vectors.proofs.sessions.step_to.Goals as goal
 
 pub returns : goal.returns

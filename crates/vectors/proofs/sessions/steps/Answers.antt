@@ -1,10 +1,9 @@
 -- `vectors::sessions::steps` meets its contract: what agrees of the whole is the steps passed and what agrees of those left.
 -- The measure is the number of those left.
 use mathlib.Core.Path.{sym, ap, ◌∙◌}
-use Prim.Native.Nat.{◌-◌}
 use borrow.Author.Tests.{not-true, not-false}
 use Rattle.vectors.specs.declared.sessions.Stepped.{Stepped}
-use Rattle.vectors.proofs.Steps.{Along, along_none, along_more, along_stop, along_all}
+use Rattle.vectors.proofs.Steps.{along_none, along_more, along_stop, along_all}
 use native.Mathlib.Omega.{arith}
 use Rattle.vectors.proofs.sessions.steps.Goals as goal
 

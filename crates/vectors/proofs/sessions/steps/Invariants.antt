@@ -1,11 +1,7 @@
 -- `vectors::sessions::steps` meets its contract: what agrees of the whole is the steps passed and what agrees of those left.
 -- The measure is the number of those left.
-use mathlib.Core.Path.{sym, ap, ◌∙◌}
 use Prim.Native.Nat.{◌-◌}
-use borrow.Author.Tests.{not-true, not-false}
-use Rattle.vectors.specs.declared.sessions.Stepped.{Stepped}
-use Rattle.vectors.proofs.Steps.{Along, along_none, along_more, along_stop, along_all}
-use native.Mathlib.Omega.{arith}
+use Rattle.vectors.proofs.Steps.{Along}
 use Rattle.vectors.proofs.sessions.steps.Given as goal
 
 abbrev pub invariant-loop-i : goal.invariant-loop-i

@@ -1,7 +1,6 @@
 -- `vectors::sessions::timed_session` meets its contract: each return by the test that led there.
 use Prim.Native.Nat.{◌+◌}
 use borrow.Author.Tests.{le-leb, lt-leb}
-use borrow.Author.Rules.{rules}
 use Rattle.vectors.specs.Runs.{timed_outcome}
 use Rattle.vectors.proofs.Rest.{span}
 use Rattle.vectors.proofs.sessions.timed_session.Goals as goal

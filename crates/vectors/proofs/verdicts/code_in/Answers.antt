@@ -9,7 +9,6 @@ use Rattle.judge.specs.Record.{record_for}
 use Rattle.judge.specs.declared.Judgement.{Judgement}
 use Rattle.judge.proofs.Plain.{record_is}
 use native.Mathlib.Omega.{arith}
-use borrow.Author.Rules.{rules}
 use Rattle.vectors.proofs.verdicts.code_in.Goals as goal
 
 -- src/verdicts.rt:29:38

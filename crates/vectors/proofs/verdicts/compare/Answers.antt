@@ -6,7 +6,6 @@ use Rattle.judge.specs.Verdict.{record_size, code_of}
 use Rattle.vectors.specs.Verdicts.{verdict_with, record_with}
 use Rattle.vectors.proofs.Rest.{rest}
 use borrow.Author.Tests.{lt-ltb, le-ltb}
-use borrow.Author.Rules.{rules}
 use Rattle.vectors.proofs.verdicts.compare.Goals as goal
 
 pub returns-then-body-lt131 : goal.returns-then-body-lt131
