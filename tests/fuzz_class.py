@@ -1,7 +1,7 @@
 #!/usr/bin/env python3
 """Runs the built program crates/handin/out/handin on classes made at random and compares it with the model: tests/fuzz_class.py MODEL COUNT SEED
 
-MODEL is the folder of the model (plans.py says which). The program must have been built, by `rt check handin`. It is run on files of one to eighteen plans,
+MODEL is the folder of the model (plans.py says which). The program must have been built, by `rt run` in crates/handin. It is run on files of one to eighteen plans,
 refused, empty, damaged and too long ones among them, some longer than two bytes can tell, and each second time for a table; two processes at a time. All that it
 writes has to be what the model says to each plan on its own, the run that is shown included; of more than sixteen files the class is refused. The script
 ends with status 1 at the first class on which something differs, and prints it.

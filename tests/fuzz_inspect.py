@@ -1,7 +1,7 @@
 #!/usr/bin/env python3
 """Runs the built program crates/inspect/out/inspect on random and damaged files and compares it with the model: tests/fuzz_inspect.py MODEL COUNT SEED [one]
 
-MODEL is the folder of the model (plans.py says which). The program must have been built, by `rt check inspect`. One process is run for each
+MODEL is the folder of the model (plans.py says which). The program must have been built, by `rt run` in crates/inspect. One process is run for each
 file, two at a time. Compensations are nested one, two and three deep, of which three is too deep. The script ends with status 1 at the first file on which
 the two differ, and prints it. With `one` the files are those that read the same where an action has one undo at most, there are nine pairs at most and no
 compensations are nested, and that are no plans with a parallel.

@@ -1,7 +1,7 @@
 #!/usr/bin/env python3
 """Runs the built program crates/postfix/out/postfix on texts made at random and compares it with the model: tests/fuzz_rule.py MODEL COUNT SEED
 
-MODEL is the folder of the model (plans.py says which). The program must have been built, by `rt check postfix`. One process is run for each text, two
+MODEL is the folder of the model (plans.py says which). The program must have been built, by `rt run` in crates/postfix. One process is run for each text, two
 at a time. What is due is the model's, and that of the reader in typed.py, which has to be the same. Before these come texts of as many bytes as the program
 takes, and of more, which have to be answered at once and on a small stack. The script ends with status 1 at the first text on which something differs, and
 prints it.

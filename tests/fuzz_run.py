@@ -1,7 +1,7 @@
 #!/usr/bin/env python3
 """Runs the built program crates/run/out/run on random plans and sessions and compares it with the model: tests/fuzz_run.py MODEL COUNT SEED [one]
 
-MODEL is the folder of the model (plans.py says which). The program must have been built, by `rt check run`. One process is run for each session.
+MODEL is the folder of the model (plans.py says which). The program must have been built, by `rt run` in crates/run. One process is run for each session.
 About half of all sessions have a window file, one of ten of these a broken one. Every other session goes line by line, each line sent once the answer to
 the one before it is there; the others come in pieces that end anywhere. About half of all sessions are brought to an end after their lines, in at most as
 many entries as the plan has leaves that the record does not name; those with a window file only where there are minutes left for that.

@@ -1,7 +1,7 @@
 #!/usr/bin/env python3
 """Runs the built programs crates/verdict/out/verdict and run on random plans and compares them with the model: tests/fuzz_verdict.py MODEL COUNT SEED [one]
 
-MODEL is the folder of the model (plans.py says which). The programs must have been built, by `rt check verdict run`. All that `verdict` writes is what the
+MODEL is the folder of the model (plans.py says which). The programs must have been built, by `rt run` in crates/verdict and crates/run. All that `verdict` writes is what the
 model has, the run that is shown included: that of a small plan is found among all of its runs, that of a large one by the model's search (shown.py). Then the
 run is offered line by line to the program `run`, which must take every entry and say that the run may end. The script ends with status 1 at the first
 plan in which something differs, and prints it. With `one` the plans are those that read the same where an action has one undo at most, there are nine

@@ -176,7 +176,8 @@ fn judge_class(rt: &HostRuntime, form: Form, files: &[u8]) {
 }
 
 fn ask_for_files(rt: &HostRuntime) {
-    let due = b"handin: the paths of plan files are due, after --table or --rows where a table or its rows are to be written\n";
+    let due =
+        b"handin: the paths of plan files are due, after --table or --rows where a table or its rows are to be written\n";
     // Where standard error takes nothing there is nobody left to tell.
     match rt.stderr().write_all(due) {
         Ok(()) => {}

@@ -126,6 +126,9 @@ pub fn fill_from<F: Files>(files: &F, path: &[u8], buf: &mut [u8]) -> Reading
     }
 }
 
+// The number that the system has for a name that is too long.
+const NAME_TOO_LONG: i32 = 36;
+
 // How many arguments there are, the name of the program among them.
 pub fn arg_count<R: Env>(rt: &R) -> usize {
     for i in 0..usize::MAX {
@@ -156,6 +159,6 @@ pub fn arg_at<R: Env>(rt: &R, i: usize, buf: &mut [u8]) -> Reading
             },
             why: None,
         },
-        Err(FillError::TooLong) => unread(io::Error::from(ErrorKind::InvalidFilename)),
+        Err(FillError::TooLong) => unread(io::Error::from_raw_os_error(NAME_TOO_LONG)),
     }
 }

@@ -115,7 +115,8 @@ fn begin(rt: &HostRuntime, taken: Taken) {
 }
 
 fn ask_for_a_plan(rt: &HostRuntime) {
-    let due = b"run: the path of a plan file is due, and for a timed job the path of a window file after it\n";
+    let due =
+        b"run: the path of a plan file is due, and for a timed job the path of a window file after it\n";
     // Where standard error takes nothing there is nobody left to tell.
     match rt.stderr().write_all(due) {
         Ok(()) => {}

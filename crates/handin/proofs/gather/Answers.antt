@@ -1,9 +1,6 @@
 -- `handin::gather` meets its contract. The invariant: the files so far end inside their area.
-use mathlib.Core.Path.{◌≡◌, sym}
-use Prim.Native.Nat.{◌-◌, ◌≤◌}
-use lib.ListN.{length}
+use mathlib.Core.Path.{sym}
 use lib.Seq.{length-take-le}
-use borrow.Author.Rules.{rules}
 use native.Mathlib.Omega.{arith}
 use Rattle.handin.proofs.gather.Goals as goal
 

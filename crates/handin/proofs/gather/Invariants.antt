@@ -1,10 +1,7 @@
 -- `handin::gather` meets its contract. The invariant: the files so far end inside their area.
-use mathlib.Core.Path.{◌≡◌, sym}
+use mathlib.Core.Path.{◌≡◌}
 use Prim.Native.Nat.{◌-◌, ◌≤◌}
 use lib.ListN.{length}
-use lib.Seq.{length-take-le}
-use borrow.Author.Rules.{rules}
-use native.Mathlib.Omega.{arith}
 use Rattle.handin.proofs.gather.Given as goal
 
 abbrev pub invariant-loop-i : goal.invariant-loop-i

@@ -1,7 +1,5 @@
 -- `handin::tell_plans` is safe and ends: each place lies inside the answers.
 use Prim.Native.Nat.{◌-◌, ◌≤◌}
-use borrow.Author.Rules.{rules}
-use native.Mathlib.Omega.{arith}
 use Rattle.handin.proofs.tell_plans.Given as goal
 
 abbrev pub invariant-loop-i : goal.invariant-loop-i

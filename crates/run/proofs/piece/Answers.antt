@@ -1,11 +1,9 @@
 -- `run::piece` meets its contract: what the whole does to the session is what is left of it does to the session so far.
 use mathlib.Core.Bool.{true≢false}
 use mathlib.Core.Path.{◌≡◌, refl, sym, ◌∙◌}
-use Prim.Native.Nat.{◌-◌, ◌≤◌}
 use native.Mathlib.Omega.{arith}
-use lib.ListN.{length, get_or, drop}
-use borrow.Author.Rules.{rules}
-use Rattle.session.specs.Session.{heard_byte, heard_all}
+use lib.ListN.{get_or}
+use Rattle.session.specs.Session.{heard_byte}
 use Rattle.session.proofs.Hearing.{heard_step, heard_end_lem}
 use Rattle.run.proofs.piece.Goals as goal
 

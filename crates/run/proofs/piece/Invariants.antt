@@ -1,12 +1,8 @@
 -- `run::piece` meets its contract: what the whole does to the session is what is left of it does to the session so far.
-use mathlib.Core.Bool.{true≢false}
-use mathlib.Core.Path.{◌≡◌, refl, sym, ◌∙◌}
+use mathlib.Core.Path.{◌≡◌}
 use Prim.Native.Nat.{◌-◌, ◌≤◌}
-use native.Mathlib.Omega.{arith}
-use lib.ListN.{length, get_or, drop}
-use borrow.Author.Rules.{rules}
-use Rattle.session.specs.Session.{heard_byte, heard_all}
-use Rattle.session.proofs.Hearing.{heard_step, heard_end_lem}
+use lib.ListN.{length, drop}
+use Rattle.session.specs.Session.{heard_all}
 use Rattle.run.proofs.piece.Given as goal
 
 abbrev pub invariant-loop-i : goal.invariant-loop-i

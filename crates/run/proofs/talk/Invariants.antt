@@ -1,5 +1,4 @@
 -- `run::talk` is safe and ends. The measure is the number of turns that are left; nothing has to hold from turn to turn.
-use native.Mathlib.Omega.{arith}
 use Rattle.run.proofs.talk.Given as goal
 
 abbrev pub invariant-loop-turns : goal.invariant-loop-turns
