@@ -10,8 +10,8 @@ use vectors::Group;
 
 // Room for a whole data file, all 0. A longer one is cut there, and is damaged where a vector or more is then missing.
 fn room() -> [u8; 1048576]
-    ensures value { 1048576 ≡ length result }
-    ensures value_2 { result ≡ replicate 1048576 0 }
+    ensures long { 1048576 ≡ length result }
+    ensures zeros { result ≡ replicate 1048576 0 }
 {
     [0; 1048576]
 }

@@ -1,7 +1,6 @@
 // Judges the plans of the course, one after the other: the name of each, and then the lines of its verdict.
 #![tactic(auto)]
 
-
 // The plan of this name. One that is longer than the largest plan file is refused by the number of its first MOST_BYTES + 1 bytes.
 fn plan(rt: &HostRuntime, name: &[u8]) {
     let mut file = [0u8; plan::MOST_BYTES + 1];

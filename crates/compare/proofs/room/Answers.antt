@@ -5,4 +5,4 @@ use lib.ListN.{length-replicate}
 use Rattle.compare.proofs.room.Goals as goal
 
 pub returns : goal.returns
-returns c = (sym (length-replicate {A = ℕ} 1048576 0), refl)
+returns c = record { long = sym (length-replicate {A = ℕ} 1048576 0); zeros = refl }
