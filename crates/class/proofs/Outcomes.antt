@@ -46,18 +46,18 @@ module _ (s : List ℕ) (work room : ℕ) where
 
   pub one_number : (m n : ℕ) → RefusedBy s work room m → RefusedBy s work room n → m ≡ n
   one_number m n (no_work h) (no_work k) = refl
-  one_number m n (no_work h) (no_class k none-held) = absurd (omega arith)
+  one_number m n (no_work h) (no_class k none_held) = absurd (omega arith)
   one_number m n (no_work h) (no_room k fs c r) = absurd (omega arith)
-  one_number m n (no_class h none-held) (no_work k) = absurd (omega arith)
-  one_number m n (no_class h none-held) (no_class k others) = refl
-  one_number m n (no_class h none-held) (no_room k fs c r) = absurd (none-held fs c)
+  one_number m n (no_class h none_held) (no_work k) = absurd (omega arith)
+  one_number m n (no_class h none_held) (no_class k others) = refl
+  one_number m n (no_class h none_held) (no_room k fs c r) = absurd (none_held fs c)
   one_number m n (no_room h fs c r) (no_work k) = absurd (omega arith)
-  one_number m n (no_room h fs c r) (no_class k none-held) = absurd (none-held fs c)
+  one_number m n (no_room h fs c r) (no_class k none_held) = absurd (none_held fs c)
   one_number m n (no_room h fs c r) (no_room k gs d q) = refl
 
   pub not_refused : (n : ℕ) (files : List (List ℕ)) → Class s files → work_size ≤ work → place_size * length files ≤ room → RefusedBy s work room n → ⊥
   not_refused n files c enough fits (no_work h) = omega arith
-  not_refused n files c enough fits (no_class h none-held) = none-held files c
+  not_refused n files c enough fits (no_class h none_held) = none_held files c
   not_refused n files c enough fits (no_room h gs d r) = omega (arith, class_twice files gs c d)
 
 module _ (s work work' work'' old new new' : List ℕ) where

@@ -15,7 +15,7 @@ use Rattle.judge.specs.Shown.{shown_entries}
 use Rattle.judge.specs.Demand3.{PlanRule, Says}
 use Rattle.judge.proofs.Demand3.{found_answer, demand3}
 use Rattle.handed.specs.Files.{Holds, most_files, Class}
-use Rattle.handed.specs.Files as the-files
+use Rattle.handed.specs.Files as the_files
 use Rattle.place.specs.Place.{place_size, heading_of, zero_work, zero_record, Placed, place_for, Places, none, place, joined}
 use Rattle.class.specs.Outcome.{RefusedBy, no_work, no_class, no_room, Unchanged, AllFilled, Outcome}
 use Rattle.class.specs.Promises.{place_in, Promised, ClassPromises}
@@ -123,7 +123,7 @@ module _ (s work work' old new : List ℕ) (a : Answer) (x : Outcome s work work
 
   nobody : s ≡ [] → work_size ≤ length work → (a ≡ Filled 0) × (work' ≡ cleared_work work) × (new ≡ old)
   nobody e w =
-      let c : Class s [] = record { holds = subst (λ (r : List ℕ). Holds r []) (sym e) the-files.none; few = omega arith } in
+      let c : Class s [] = record { holds = subst (λ (r : List ℕ). Holds r []) (sym e) the_files.none; few = omega arith } in
       let y = one_outcome s work work' (cleared_work work) old new old a (Filled 0) x (files_filled [] c w (omega arith) [] none) in
       (y.answers, y.works, y.areas)
 

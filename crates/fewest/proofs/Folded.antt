@@ -33,7 +33,7 @@ module _ (may : ℕ → Wish) (types b : List ℕ) where
   pub folded : (i : ℕ) → fold_at leaf_costs_at node_costs_at b i ≡ costs_of may (process_at types b i)
   folded i = sym (fold_map (costs_of may) (leaf_of types b) (composite_of b) leaf_costs_at node_costs_at b (λ i. refl) (λ i P Q. refl) (suc i) i)
 
-  pub by_rows : {actionLimit : ℕ} → RunnableWithin actionLimit types b → (table : List ℕ) → table ≡ rows → (i : ℕ) → i < count b → (x y : Costs)
+  pub by_rows : {action_limit : ℕ} → RunnableWithin action_limit types b → (table : List ℕ) → table ≡ rows → (i : ℕ) → i < count b → (x y : Costs)
       → cond (ltb (form b i) 3) (leaf_costs_at i) (node_costs (cell_in3 table (form b i)) x y 15) ≡ cond (ltb (form b i) 3) (leaf_costs_at i) (node_costs_at i x y)
   by_rows r table e i c x y = go (ltb (form b i) 3) refl
     where

@@ -53,7 +53,7 @@ module _ (types b : List ℕ) (S : ℕ) (table : List ℕ) where
       let (s, f) = both_hold (in_set S a) (not (finished b table a)) d in
       let (leaf, low) = both_hold (is_leaf_of b a n) (ltb (outcome_at table n) 2) c in
       let small : outcome_at table n < 2 = ltb-true _ 2 low in
-      let not-one : outcome_at table n ≡ 1 → ⊥ = λ e. true≢false (sym (any_true (count b) (λ m. is_leaf_of b a m && eqb (outcome_at table m) 1) n h (rw leaf (eq-eqb _ _ e))) ∙ not-true _ f) in
+      let not_one : outcome_at table n ≡ 1 → ⊥ = λ e. true≢false (sym (any_true (count b) (λ m. is_leaf_of b a m && eqb (outcome_at table m) 1) n h (rw leaf (eq-eqb _ _ e))) ∙ not-true _ f) in
       omega arith
 
 -- how many leaves of a table are free

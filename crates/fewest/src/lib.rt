@@ -3,7 +3,7 @@
 #![tactic(auto)]
 
 ghost use Rattle.std.specs.Prelude.{◌≡◌, true, not, cond, ◌&&◌, ◌+◌, ◌≤◌, ◌<◌, min, eqb, ltb, leb, length, set};
-ghost use Rattle.outcomes.specs.Rows.{rows as outcomeRows, code_of_digit, row_cell, cell_in3};
+ghost use Rattle.outcomes.specs.Rows.{rows as outcome_rows, code_of_digit, row_cell, cell_in3};
 ghost use Rattle.nodes.specs.Nodes.{count, form, left};
 ghost use Rattle.plan.specs.PlanFile.{RunnableWithin};
 ghost use Rattle.plan.specs.Tree.{leaf_of, process_of};
@@ -168,7 +168,7 @@ fn final_cost(x: Costs) -> u8
 
 // The fewest failed entries of a complete run that has the outcomes of the table and finishes no action outside the set.
 fn fold(rows: &[u64; 75], types: &[u8], nodes: &[u8], set: usize, table: &[u8; 63]) -> u8
-    requires { RunnableWithin most_searched types.now nodes.now × (rows.now ≡ outcomeRows) }
+    requires { RunnableWithin most_searched types.now nodes.now × (rows.now ≡ outcome_rows) }
     ensures { result ≡ fewest_of (wishes nodes.now set table.now) (process_of types.now nodes.now) }
 {
     let none = Costs { by: [NONE; 15] };
@@ -308,7 +308,7 @@ fn is_left(
     best: u8,
     n: usize,
 ) -> bool
-    requires { RunnableWithin most_searched types.now nodes.now × (rows.now ≡ outcomeRows) × (n < count nodes.now) }
+    requires { RunnableWithin most_searched types.now nodes.now × (rows.now ≡ outcome_rows) × (n < count nodes.now) }
     ensures { result ≡ is_left types.now nodes.now set table.now a best n }
 {
     if !is_candidate(nodes, table, a, n) {
@@ -328,7 +328,7 @@ fn leaves_left(
     a: usize,
     best: u8,
 ) -> usize
-    requires { RunnableWithin most_searched types.now nodes.now × (rows.now ≡ outcomeRows) }
+    requires { RunnableWithin most_searched types.now nodes.now × (rows.now ≡ outcome_rows) }
     ensures { result ≡ leaves_left types.now nodes.now set table.now a best }
 {
     let n = nodes.len() / 3;
@@ -368,7 +368,7 @@ fn fewest_left(
     table: &[u8; 63],
     best: u8,
 ) -> Choice
-    requires { RunnableWithin most_searched types.now nodes.now × (rows.now ≡ outcomeRows) × (actions ≤ most_searched) }
+    requires { RunnableWithin most_searched types.now nodes.now × (rows.now ≡ outcome_rows) × (actions ≤ most_searched) }
     ensures { Chosen actions types.now nodes.now set table.now best result }
 {
     let mut c = Choice {
@@ -409,7 +409,7 @@ fn choose(
     table: &[u8; 63],
     best: u8,
 ) -> Choice
-    requires { RunnableWithin most_searched types.now nodes.now × (rows.now ≡ outcomeRows) × (actions ≤ most_searched) }
+    requires { RunnableWithin most_searched types.now nodes.now × (rows.now ≡ outcome_rows) × (actions ≤ most_searched) }
     ensures { Chosen actions types.now nodes.now set table.now best result }
 {
     let action = first_single(nodes, set, actions, table);
@@ -429,7 +429,7 @@ fn is_cut(
     other: bool,
     best: u8,
 ) -> bool
-    requires { RunnableWithin most_searched types.now nodes.now × (rows.now ≡ outcomeRows) }
+    requires { RunnableWithin most_searched types.now nodes.now × (rows.now ≡ outcome_rows) }
     ensures { result ≡ (other && leb best (fewest_of (wishes nodes.now set table.now) (process_of types.now nodes.now))) }
 {
     other && best <= fold(rows, types, nodes, set, table)
@@ -446,7 +446,7 @@ fn search(
     other: bool,
     best: u8,
 ) -> u8
-    requires { Searchable actions types.now nodes.now set × (rows.now ≡ outcomeRows) × (best ≤ unreached) × (length table.now ≡ 63) }
+    requires { Searchable actions types.now nodes.now set × (rows.now ≡ outcome_rows) × (best ≤ unreached) × (length table.now ≡ 63) }
     ensures { result ≡ min best (searched types.now nodes.now set actions 0 table.now) }
 {
     if is_cut(rows, types, nodes, set, table, other, best) {
@@ -483,7 +483,7 @@ pub fn fewest(
     table: [u8; 63],
     most: u8,
 ) -> u8
-    requires { Searchable actions types.now nodes.now set × (rows.now ≡ outcomeRows) × (most ≤ unreached) }
+    requires { Searchable actions types.now nodes.now set × (rows.now ≡ outcome_rows) × (most ≤ unreached) }
     ensures { LeastBelow most (Leaving types.now nodes.now set table) result }
 {
     search(rows, types, nodes, set, actions, &table, false, most)

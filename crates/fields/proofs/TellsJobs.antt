@@ -48,10 +48,10 @@ job_only a b h =
     let (records, h2) = both_hold _ _ h1 in
     let (hours, h3) = both_hold _ _ h2 in
     let (timed, minutes) = both_hold _ _ h3 in
-    let (file, file-len) = area_only _ _ _ _ plans in
+    let (file, file_len) = area_only _ _ _ _ plans in
     let (entries, taken) = area_only _ _ _ _ records in
     let (windows, windows_len) = area_only _ _ _ _ hours in
-    same (beq_only _ _ timed) (eqb-true _ _ minutes) file file-len entries taken windows windows_len
+    same (beq_only _ _ timed) (eqb-true _ _ minutes) file file_len entries taken windows windows_len
   where
     same : a.timed ≡ b.timed → a.minute ≡ b.minute
         → a.file ≡ b.file → a.file_len ≡ b.file_len → a.entries ≡ b.entries → a.taken ≡ b.taken

@@ -185,10 +185,10 @@ module _ (s : List ℕ) (at n : ℕ) (c : Counting s at n) where
       omega (arith, k.few)
 
   pub cut_there : at < length s → ((f rest : List ℕ) → Ahead (drop at s) f rest → ⊥) → (files : List (List ℕ)) → Class s files → ⊥
-  cut_there h none-there files k =
+  cut_there h none_there files k =
       let (fs, x, l) = c.forth files k.holds in
       let y = headed (drop at s) fs x (omega (arith, length-drop at s)) in
-      none-there y.first y.after y.ahead
+      none_there y.first y.after y.ahead
 
   pub all_counted : length s ≤ at → Counted s n
   all_counted h =

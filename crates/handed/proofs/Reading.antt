@@ -10,7 +10,7 @@ use lib.ListN.{length, take, drop, take-append-drop}
 use lib.Seq.{length-take-le}
 use borrow.Author.Tests.{ltb-true, ltb-false}
 use Rattle.handed.specs.Files.{Ahead, Holds, file}
-use Rattle.handed.specs.Files as the-files
+use Rattle.handed.specs.Files as the_files
 use Rattle.handed.specs.Reading.{after_first, before, with_first, ended, files_of}
 use Rattle.handed.proofs.Files.{headed, says_length, ahead_long, rests_same}
 
@@ -38,7 +38,7 @@ abbrev Read : ℕ → List ℕ → List (List ℕ) → Type 0
 Read k s fs = Holds s fs × (length fs ≤ k)
 
 nothing_read : (k : ℕ) (fs : List (List ℕ)) → some [] ≡ some fs → Read k [] fs
-nothing_read k fs h = subst (λ (gs : List (List ℕ)). Read k [] gs) (some-injective _ _ h) (the-files.none, omega arith)
+nothing_read k fs h = subst (λ (gs : List (List ℕ)). Read k [] gs) (some-injective _ _ h) (the_files.none, omega arith)
 
 ended_read : (s : List ℕ) (fs : List (List ℕ)) → ended s ≡ some fs → Read 0 s fs
 ended_read [] fs h = nothing_read 0 fs h

@@ -65,5 +65,5 @@ module _ (r : List ℕ) (k leaf outcome : ℕ) (room : 2 * k + 1 < length r) whe
           let past = ltb-false i (2 * (k + 1)) e in
           let same : get_or longer i 0 ≡ get_or r i 0 =
           get_or-set_other (set r (2 * k) leaf) (2 * k + 1) i outcome 0 (λ z. omega arith) ∙ get_or-set_other r (2 * k) i leaf 0 (λ z. omega arith) in
-          let zero-there : cond (ltb i (2 * k)) true (eqb (get_or r i 0) 0) ≡ true = every_at (λ i. cond (ltb i (2 * k)) true (eqb (get_or r i 0) 0)) (length r) i h l in
-          rw (e, same) (rw (le-ltb i (2 * k) (omega arith)) at zero-there)
+          let zero_there : cond (ltb i (2 * k)) true (eqb (get_or r i 0) 0) ≡ true = every_at (λ i. cond (ltb i (2 * k)) true (eqb (get_or r i 0) 0)) (length r) i h l in
+          rw (e, same) (rw (le-ltb i (2 * k) (omega arith)) at zero_there)

@@ -32,7 +32,7 @@ module _ (s : List ℕ) (l : Layout) (h : read_of s ≡ Accepted l) where
 
     put : (v : Judgement) → JudgedPlan types (bytes_of s l.pairs) nodes (bytes_of s l.rule) work mid v run
         → written mid 0 (replicate work_size 0) ≡ work_after v work → RecordAfter s v old (written old 0 run) → Put v
-    put v j w r = record { answer = j.answer ∙ sym (found_answer s (length work) (length old) enough room ∙ ap (verdict_on s) h); work_after_lem = w; record_after = r }
+    put v j w r = record { answer = j.answer ∙ sym (found_answer s (length work) (length old) enough room ∙ ap (verdict_on s) h); area_after = w; record_after = r }
 
     work_cleared : {v : Judgement} → JudgedPlan types (bytes_of s l.pairs) nodes (bytes_of s l.rule) work mid v run → written mid 0 (replicate work_size 0) ≡ work_after Consistent work
     work_cleared j = cleared work mid (omega (arith, j.long)) j.kept

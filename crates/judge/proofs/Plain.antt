@@ -96,6 +96,6 @@ one_answer s work work' work'' old new new' v v' j k =
     let e : v ≡ v' = j.answer ∙ sym k.answer in
     record {
       answers = e;
-      works = j.work_after_lem ∙ ap (λ (x : Judgement). work_after x work) e ∙ sym k.work_after_lem;
+      works = j.area_after ∙ ap (λ (x : Judgement). work_after x work) e ∙ sym k.area_after;
       records = record_is s work work' old new v j ∙ ap (λ (x : Judgement). record_for s x old) e ∙ sym (record_is s work work'' old new' v' k);
     }

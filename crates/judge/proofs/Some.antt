@@ -48,4 +48,4 @@ module _ (s old : List ℕ) where
   after_checks false false = after_reading (read_of s) refl
 
 pub some_answer : SomeAnswer
-some_answer s work old = record { answer = refl; work_after_lem = refl; record_after = after_checks s old (ltb (length work) work_size) (ltb (length old) record_size) }
+some_answer s work old = record { answer = refl; area_after = refl; record_after = after_checks s old (ltb (length work) work_size) (ltb (length old) record_size) }

@@ -38,7 +38,7 @@ work_after (Refused n) work = work
 
 pub record Judged (s work work' old new : List ℕ) (v : Judgement) : Type 0 where
   pub answer : v ≡ verdict_of s (length work) (length old)
-  pub work_after_lem : work' ≡ work_after v work
+  pub area_after : work' ≡ work_after v work
   pub record_after : RecordAfter s v old new
 
 -- On one input there is one answer, and one thing that it leaves in each area. The proof is `one_answer`.

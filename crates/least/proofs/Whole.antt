@@ -9,7 +9,7 @@ use Rattle.summary.specs.declared.Summary.{Summary}
 use Rattle.summary.specs.Summary.{family_of}
 use Rattle.least.specs.Least.{FinalSet, Finals}
 
-module _ (s : Summary) (not-undone failed r : List ℕ) (u : Joined s.s13 s.s14 not-undone) (f : Joined s.s9 not-undone failed) (w : Joined s.s1 failed r) where
+module _ (s : Summary) (not_undone failed r : List ℕ) (u : Joined s.s13 s.s14 not_undone) (f : Joined s.s9 not_undone failed) (w : Joined s.s1 failed r) where
   under_fail : (t : ℕ) → In failed t → FinalSet s t
   under_fail t on = elim (f.sound t on) [
     | inl x ↦ record { code = 9; status = fail; final = final_9; has = x }

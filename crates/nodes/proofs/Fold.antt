@@ -17,14 +17,14 @@ use Rattle.nodes.specs.Fold.{fold_from, fold_at}
 -- Induction over the nodes: what holds of a leaf, and of a composite where it holds of its parts, holds of every node.
 pub node_ind : (b : List ℕ) → Descending b → (Q : ℕ → Type 0) → ((i : ℕ) → i < count b → form b i < 3 → Q i)
     → ((i : ℕ) → i < count b → 3 ≤ form b i → Q (left b i) → Q (right b i) → Q i) → (i : ℕ) → i < count b → Q i
-node_ind b down Q on-leaf on-node i h = go (suc i) i (omega arith) h
+node_ind b down Q on_leaf on_node i h = go (suc i) i (omega arith) h
   where
     pick_case : (k i : ℕ) → i < count b → ((j : ℕ) → j < i → j < count b → Q j) → (t : Bool) → ltb (form b i) 3 ≡ t → Q i
-    pick_case k i c below true e = on-leaf i c (ltb-true _ _ e)
+    pick_case k i c below true e = on_leaf i c (ltb-true _ _ e)
     pick_case k i c below false e =
         let f = ltb-false (form b i) 3 e in
         let (l, r) = down i c f in
-        on-node i c f (below (left b i) l (omega arith)) (below (right b i) r (omega arith))
+        on_node i c f (below (left b i) l (omega arith)) (below (right b i) r (omega arith))
 
     go : (k i : ℕ) → i < k → i < count b → Q i
     go zero i l c = absurd (not-suc-le-zero l)
@@ -85,14 +85,14 @@ pub fold_map : {A B : Type 0} (h : A → B) (leaf : ℕ → A) (node : ℕ → A
     → ((i : ℕ) → h (leaf i) ≡ leaf' i) → ((i : ℕ) (x y : A) → h (node i x y) ≡ node' i (h x) (h y))
     → (k i : ℕ) → h (fold_from leaf node b k i) ≡ fold_from leaf' node' b k i
 unfolding fold_from
-fold_map h leaf node leaf' node' b on-leaf on-node zero i = on-leaf i
-fold_map h leaf node leaf' node' b on-leaf on-node (suc k) i =
-    go (fold_map h leaf node leaf' node' b on-leaf on-node k (left b i)) (fold_map h leaf node leaf' node' b on-leaf on-node k (right b i)) (ltb (form b i) 3)
+fold_map h leaf node leaf' node' b on_leaf on_node zero i = on_leaf i
+fold_map h leaf node leaf' node' b on_leaf on_node (suc k) i =
+    go (fold_map h leaf node leaf' node' b on_leaf on_node k (left b i)) (fold_map h leaf node leaf' node' b on_leaf on_node k (right b i)) (ltb (form b i) 3)
   where
     go : h (fold_from leaf node b k (left b i)) ≡ fold_from leaf' node' b k (left b i)
         → h (fold_from leaf node b k (right b i)) ≡ fold_from leaf' node' b k (right b i)
         → (t : Bool)
         → h (cond t (leaf i) (node i (fold_from leaf node b k (left b i)) (fold_from leaf node b k (right b i))))
         ≡ cond t (leaf' i) (node' i (fold_from leaf' node' b k (left b i)) (fold_from leaf' node' b k (right b i)))
-    go l r true = on-leaf i
-    go l r false = on-node i _ _ ∙ ap₂ (node' i) l r
+    go l r true = on_leaf i
+    go l r false = on_node i _ _ ∙ ap₂ (node' i) l r

@@ -7,7 +7,7 @@ use Rattle.process.specs.Forms.{form_of}
 
 -- What a line gives: the left code, the right code, a code, or a code to which 3 is added where either side failed.
 pub data Gives : Type 0 where
-  the-left the-right : Gives
+  the_left the_right : Gives
   the_code : ℕ → Gives
   failed_if_either : ℕ → Gives
 
@@ -32,12 +32,12 @@ unfoldable pub lines : Form → List Line
 -- (1,r) gives r for r = 1, 3, 4, 6; (2,2) 2; (2,5) 5; (3,2) 3; (3,5) 6; (4..6,0) the left
 lines sequence =
     line (0 ∷ []) (0 ∷ []) (the_code 0)
-    ∷ line (1 ∷ []) (1 ∷ 3 ∷ 4 ∷ 6 ∷ []) the-right
+    ∷ line (1 ∷ []) (1 ∷ 3 ∷ 4 ∷ 6 ∷ []) the_right
     ∷ line (2 ∷ []) (2 ∷ []) (the_code 2)
     ∷ line (2 ∷ []) (5 ∷ []) (the_code 5)
     ∷ line (3 ∷ []) (2 ∷ []) (the_code 3)
     ∷ line (3 ∷ []) (5 ∷ []) (the_code 6)
-    ∷ line failed (0 ∷ []) the-left
+    ∷ line failed (0 ∷ []) the_left
     ∷ []
 -- Both at least 1: failed if either is at least 4; undo not run if both not run, succeeded if both succeeded, failed if both ran and
 -- either failed; otherwise 7: "parallel cells with exactly one code 0 become 7, as do those where one undo failed and the other was not
@@ -50,20 +50,20 @@ lines parallel =
     ∷ line undone (3 ∷ 6 ∷ []) (failed_if_either 3)
     ∷ []
 -- the one side that is not 0
-lines choice = line (0 ∷ []) (0 ∷ []) (the_code 0) ∷ line any_run (0 ∷ []) the-left ∷ line (0 ∷ []) any_run the-right ∷ []
+lines choice = line (0 ∷ []) (0 ∷ []) (the_code 0) ∷ line any_run (0 ∷ []) the_left ∷ line (0 ∷ []) any_run the_right ∷ []
 -- (1,0) 1; (1,1) 2; (1,5) 3; (4..6,0) the left
 lines compensation =
     line (0 ∷ []) (0 ∷ []) (the_code 0)
     ∷ line (1 ∷ []) (0 ∷ []) (the_code 1)
     ∷ line (1 ∷ []) (1 ∷ []) (the_code 2)
     ∷ line (1 ∷ []) (5 ∷ []) (the_code 3)
-    ∷ line failed (0 ∷ []) the-left
+    ∷ line failed (0 ∷ []) the_left
     ∷ []
 -- (1..3,0) the left; (5,r) and (6,r) give r for r = 1 to 6
 lines handler =
     line (0 ∷ []) (0 ∷ []) (the_code 0)
-    ∷ line (1 ∷ 2 ∷ 3 ∷ []) (0 ∷ []) the-left
-    ∷ line (5 ∷ 6 ∷ []) any_run the-right
+    ∷ line (1 ∷ 2 ∷ 3 ∷ []) (0 ∷ []) the_left
+    ∷ line (5 ∷ 6 ∷ []) any_run the_right
     ∷ []
 
 -- Whether the code is one of these.
@@ -73,8 +73,8 @@ among c (x ∷ xs) = eqb c x || among c xs
 
 -- What the line gives for the left code l and the right code r.
 abbrev pub gives : Gives → ℕ → ℕ → ℕ
-gives the-left l r = l
-gives the-right l r = r
+gives the_left l r = l
+gives the_right l r = r
 gives (the_code c) l r = c
 gives (failed_if_either c) l r = cond (leb 4 l || leb 4 r) (c + 3) c
 

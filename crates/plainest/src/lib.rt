@@ -3,7 +3,7 @@
 #![tactic(auto)]
 
 ghost use Rattle.std.specs.Prelude.{◌≡◌, ◌^◌, ◌<◌, length, set};
-ghost use Rattle.outcomes.specs.Rows.{rows as outcomeRows};
+ghost use Rattle.outcomes.specs.Rows.{rows as outcome_rows};
 ghost use Rattle.plan.specs.PlanFile.{most_actions, Runnable};
 ghost use Rattle.fewest.specs.Costs.{unreached};
 ghost use Rattle.plainest.specs.Shown.{LeftBy, fits, outcome_for, next_entry, with_entry, plainest_bytes};
@@ -25,7 +25,7 @@ fn fits(
     n: usize,
     o: u8,
 ) -> bool
-    requires { Runnable types.now nodes.now × (set < 2 ^ most_actions) × (rows.now ≡ outcomeRows) × (k < unreached) × (n < 63) × (length table.now ≡ 63) }
+    requires { Runnable types.now nodes.now × (set < 2 ^ most_actions) × (rows.now ≡ outcome_rows) × (k < unreached) × (n < 63) × (length table.now ≡ 63) }
     ensures { result ≡ fits types.now nodes.now set k table.now n o }
 {
     let mut t = *table;
@@ -44,7 +44,7 @@ fn outcome_for(
     next: u64,
     n: usize,
 ) -> u8
-    requires { Runnable types.now nodes.now × (set < 2 ^ most_actions) × (rows.now ≡ outcomeRows) × (k < unreached) × (n < 63) × (length table.now ≡ 63) }
+    requires { Runnable types.now nodes.now × (set < 2 ^ most_actions) × (rows.now ≡ outcome_rows) × (k < unreached) × (n < 63) × (length table.now ≡ 63) }
     ensures { result ≡ outcome_for types.now nodes.now set k table.now next n }
 {
     if (next >> n) % 2 != 1 {
@@ -68,7 +68,7 @@ fn next_entry(
     k: u8,
     table: &[u8; 63],
 ) -> Entry
-    requires { Runnable types.now nodes.now × (set < 2 ^ most_actions) × (rows.now ≡ outcomeRows) × (k < unreached) × (length table.now ≡ 63) }
+    requires { Runnable types.now nodes.now × (set < 2 ^ most_actions) × (rows.now ≡ outcome_rows) × (k < unreached) × (length table.now ≡ 63) }
     ensures { result ≡ next_entry types.now nodes.now set k table.now }
 {
     let told = state::told_by(types, nodes, table);
@@ -103,7 +103,7 @@ fn with_entry(run: [u8; 126], i: usize, e: Entry) -> [u8; 126]
 
 // The record bytes of the plainest run that leaves the set, where some complete run does.
 pub fn show(rows: &[u64; 75], types: &[u8], nodes: &[u8], set: usize) -> [u8; 126]
-    requires { Runnable types.now nodes.now × (set < 2 ^ most_actions) × (rows.now ≡ outcomeRows) × LeftBy types.now nodes.now set }
+    requires { Runnable types.now nodes.now × (set < 2 ^ most_actions) × (rows.now ≡ outcome_rows) × LeftBy types.now nodes.now set }
     ensures { result ≡ plainest_bytes types.now nodes.now set }
 {
     let mut table = [0u8; 63];

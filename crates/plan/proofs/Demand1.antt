@@ -40,10 +40,10 @@ pub demand1 : Demand1
 demand1 = record {
   accepts = λ s bytes. accepted_exactly most_actions most_pairs (omega arith) s bytes;
   refuses = λ s bytes n. refused_exactly most_actions most_pairs (omega arith) s bytes n;
-  accepts_within = λ actionLimit pairLimit few s bytes. accepted_exactly actionLimit pairLimit few s bytes;
-  refuses_within = λ actionLimit pairLimit few s bytes n. refused_exactly actionLimit pairLimit few s bytes n;
+  accepts_within = λ action_limit pair_limit few s bytes. accepted_exactly action_limit pair_limit few s bytes;
+  refuses_within = λ action_limit pair_limit few s bytes n. refused_exactly action_limit pair_limit few s bytes n;
   no_fourth = λ actions pairs legal. no_fourth actions pairs legal;
-  most_pairs_lem = λ actionLimit actions pairs five few legal. most_pairs_lem actions pairs legal actionLimit five few;
+  most_pairs_lem = λ action_limit actions pairs five few legal. most_pairs_lem actions pairs legal action_limit five few;
   levels = λ actions types nodes forms once some. levels_say most_undos types nodes (λ i c f. (forms i c).parts f) once some;
   flat = λ actions types nodes forms once some. levels_say 1 types nodes (λ i c f. (forms i c).parts f) once some;
   blocks = in_blocks;

@@ -38,45 +38,45 @@ nodes_part T P N = place (end_of (pairs_part T P)) N
 abbrev rule_part : List ℕ → List ℕ → List ℕ → List ℕ → Part
 rule_part T P N R = place (end_of (nodes_part T P N)) R
 
-module _ (actionLimit pairLimit : ℕ) (limit : actionLimit ≤ 128) (s : List ℕ) where
+module _ (action_limit pair_limit : ℕ) (limit : action_limit ≤ 128) (s : List ℕ) where
   abbrev answer : Reading
-  answer = read_within actionLimit pairLimit s
+  answer = read_within action_limit pair_limit s
 
-  few : (T : List ℕ) → TypesBody actionLimit T → length T ≤ 128
+  few : (T : List ℕ) → TypesBody action_limit T → length T ≤ 128
   few T t = omega (arith, at_most t.size)
 
   -- the bodies of an accepted file are in order
-  pub accepted_holds : (l : Layout) → answer ≡ Accepted l → Holds actionLimit pairLimit s l
+  pub accepted_holds : (l : Layout) → answer ≡ Accepted l → Holds action_limit pair_limit s l
   accepted_holds l h =
-      let b = accepted_laid actionLimit pairLimit s l h in
-      let t = in_order (types_checks actionLimit) s 0 l.types b.types in
+      let b = accepted_laid action_limit pair_limit s l h in
+      let t = in_order (types_checks action_limit) s 0 l.types b.types in
       let actions : length (bytes_of s l.types) ≡ l.types.len = body_length_lem s l.types b.types.inside in
       let limited : l.types.len ≤ 128 = omega (arith, few (bytes_of s l.types) t) in
       record {
         types_hold = t;
-        pairs_hold = rw actions (in_order (pairs_checks pairLimit l.types.len) s (end_of l.types) l.pairs b.pairs);
+        pairs_hold = rw actions (in_order (pairs_checks pair_limit l.types.len) s (end_of l.types) l.pairs b.pairs);
         nodes_hold = rw actions (in_order (nodes_checks l.types.len) s (end_of l.pairs) l.nodes b.nodes);
         rule_holds = rw actions (in_order (rule_checks l.types.len limited) s (end_of l.nodes) l.rule b.rule);
       }
 
   -- past the blocks in order: what stands after them, and what the reader does next
-  module _ (T rest : List ℕ) (e : s ≡ block 1 T ++ rest) (t : TypesBody actionLimit T) where
+  module _ (T rest : List ℕ) (e : s ≡ block 1 T ++ rest) (t : TypesBody action_limit T) where
     after_types : drop (end_of (types_part T)) s ≡ rest
     after_types = after_written s 0 1 T rest e
 
-    past_types : answer ≡ with_types pairLimit s (types_part T)
-    past_types = past (types_checks actionLimit) s 0 T rest e t (with_types pairLimit s)
+    past_types : answer ≡ with_types pair_limit s (types_part T)
+    past_types = past (types_checks action_limit) s 0 T rest e t (with_types pair_limit s)
 
-  module _ (T P rest : List ℕ) (e : s ≡ block 1 T ++ (block 2 P ++ rest)) (t : TypesBody actionLimit T) (p : PairsBody pairLimit (length T) P) where
+  module _ (T P rest : List ℕ) (e : s ≡ block 1 T ++ (block 2 P ++ rest)) (t : TypesBody action_limit T) (p : PairsBody pair_limit (length T) P) where
     after_pairs : drop (end_of (pairs_part T P)) s ≡ rest
     after_pairs = after_written s (end_of (types_part T)) 2 P rest (after_types T (block 2 P ++ rest) e t)
 
     past_pairs : answer ≡ with_pairs s (types_part T) (pairs_part T P)
     past_pairs =
         past_types T (block 2 P ++ rest) e t
-        ∙ past (pairs_checks pairLimit (length T)) s (end_of (types_part T)) P rest (after_types T (block 2 P ++ rest) e t) p (with_pairs s (types_part T))
+        ∙ past (pairs_checks pair_limit (length T)) s (end_of (types_part T)) P rest (after_types T (block 2 P ++ rest) e t) p (with_pairs s (types_part T))
 
-  module _ (T P N rest : List ℕ) (e : s ≡ block 1 T ++ (block 2 P ++ (block 3 N ++ rest))) (t : TypesBody actionLimit T) (p : PairsBody pairLimit (length T) P) (n : NodesBody (length T) N) where
+  module _ (T P N rest : List ℕ) (e : s ≡ block 1 T ++ (block 2 P ++ (block 3 N ++ rest))) (t : TypesBody action_limit T) (p : PairsBody pair_limit (length T) P) (n : NodesBody (length T) N) where
     after_nodes : drop (end_of (nodes_part T P N)) s ≡ rest
     after_nodes = after_written s (end_of (pairs_part T P)) 3 N rest (after_pairs T P (block 3 N ++ rest) e t p)
 
@@ -85,7 +85,7 @@ module _ (actionLimit pairLimit : ℕ) (limit : actionLimit ≤ 128) (s : List �
         past_pairs T P (block 3 N ++ rest) e t p
         ∙ past (nodes_checks (length T)) s (end_of (pairs_part T P)) N rest (after_pairs T P (block 3 N ++ rest) e t p) n (with_nodes s (types_part T) (pairs_part T P))
 
-  module _ (T P N R rest : List ℕ) (e : s ≡ block 1 T ++ (block 2 P ++ (block 3 N ++ (block 4 R ++ rest)))) (b : Bodies actionLimit pairLimit T P N R) where
+  module _ (T P N R rest : List ℕ) (e : s ≡ block 1 T ++ (block 2 P ++ (block 3 N ++ (block 4 R ++ rest)))) (b : Bodies action_limit pair_limit T P N R) where
     to_rule : drop (end_of (nodes_part T P N)) s ≡ block 4 R ++ rest
     to_rule = after_nodes T P N (block 4 R ++ rest) e b.types_hold b.pairs_hold b.nodes_hold
 
@@ -97,14 +97,14 @@ module _ (actionLimit pairLimit : ℕ) (limit : actionLimit ≤ 128) (s : List �
         past_nodes T P N (block 4 R ++ rest) e b.types_hold b.pairs_hold b.nodes_hold
         ∙ past (rule_checks (length T) (few T b.types_hold)) s (end_of (nodes_part T P N)) R rest to_rule b.rule_holds (with_rule s (types_part T) (pairs_part T P) (nodes_part T P N))
 
-  abbrev layout : PlanFile actionLimit pairLimit s → Layout
+  abbrev layout : PlanFile action_limit pair_limit s → Layout
   layout f =
       let T = f.types in
       let P = f.pairs in
       let N = f.nodes in
       record { types = types_part T; pairs = pairs_part T P; nodes = nodes_part T P N; rule = rule_part T P N f.rule }
 
-  file_accepted : (f : PlanFile actionLimit pairLimit s) → answer ≡ Accepted (layout f)
+  file_accepted : (f : PlanFile action_limit pair_limit s) → answer ≡ Accepted (layout f)
   file_accepted f =
       let T = f.types in
       let P = f.pairs in
@@ -113,11 +113,11 @@ module _ (actionLimit pairLimit : ℕ) (limit : actionLimit ≤ 128) (s : List �
       let e : s ≡ block 1 T ++ (block 2 P ++ (block 3 N ++ (block 4 R ++ []))) = f.blocks ∙ rw (append-nil R) in
       past_rule T P N R [] e f.hold ∙ rw (eq-eqb (end_of (rule_part T P N R)) (length s) (omega (arith, file_long T P N R [] e f.hold)))
 
-  broken_refused : (n : ℕ) → Broken actionLimit pairLimit s n → answer ≡ Refused n
-  broken_refused n (Broken.in_types f) = stopped (types_checks actionLimit) s 0 s n refl f (with_types pairLimit s)
+  broken_refused : (n : ℕ) → Broken action_limit pair_limit s n → answer ≡ Refused n
+  broken_refused n (Broken.in_types f) = stopped (types_checks action_limit) s 0 s n refl f (with_types pair_limit s)
   broken_refused n (Broken.in_pairs T rest e t f) =
       past_types T rest e t
-      ∙ stopped (pairs_checks pairLimit (length T)) s (end_of (types_part T)) rest n (after_types T rest e t) f (with_pairs s (types_part T))
+      ∙ stopped (pairs_checks pair_limit (length T)) s (end_of (types_part T)) rest n (after_types T rest e t) f (with_pairs s (types_part T))
   broken_refused n (Broken.in_nodes T P rest e t p f) =
       past_pairs T P rest e t p
       ∙ stopped (nodes_checks (length T)) s (end_of (pairs_part T P)) rest n (after_pairs T P rest e t p) f (with_nodes s (types_part T) (pairs_part T P))
@@ -130,11 +130,11 @@ module _ (actionLimit pairLimit : ℕ) (limit : actionLimit ≤ 128) (s : List �
 
   -- whatever the answer is, it is right
   abbrev Right : Reading → Type 0
-  Right (Accepted l) = PlanFile actionLimit pairLimit s
-  Right (Refused n) = Broken actionLimit pairLimit s n
+  Right (Accepted l) = PlanFile action_limit pair_limit s
+  Right (Refused n) = Broken action_limit pair_limit s n
 
   right_at_end : (T P N R : List ℕ) → let after = drop (end_of (rule_part T P N R)) s in s ≡ block 1 T ++ (block 2 P ++ (block 3 N ++ (block 4 R ++ after)))
-      → Bodies actionLimit pairLimit T P N R → Right (with_rule s (types_part T) (pairs_part T P) (nodes_part T P N) (rule_part T P N R))
+      → Bodies action_limit pair_limit T P N R → Right (with_rule s (types_part T) (pairs_part T P) (nodes_part T P N) (rule_part T P N R))
   right_at_end T P N R e b =
       let end = end_of (rule_part T P N R) in
       choose Right (eqb end (length s))
@@ -146,10 +146,10 @@ module _ (actionLimit pairLimit : ℕ) (limit : actionLimit ≤ 128) (s : List �
   module _ (bytes : Bytes s) where
     right : Right answer
     right =
-        by_block (types_checks actionLimit) s 0 bytes (with_types pairLimit s) Right
+        by_block (types_checks action_limit) s 0 bytes (with_types pair_limit s) Right
         (λ T e1 t.
         let tp = types_part T in
-        by_block (pairs_checks pairLimit (length T)) s (end_of tp) bytes (with_pairs s tp) Right
+        by_block (pairs_checks pair_limit (length T)) s (end_of tp) bytes (with_pairs s tp) Right
         (λ P e2 p.
         let pp = pairs_part T P in
         let upto2 : s ≡ block 1 T ++ (block 2 P ++ drop (end_of pp) s) = e1 ∙ ap (λ (r : List ℕ). block 1 T ++ r) e2 in
@@ -167,9 +167,9 @@ module _ (actionLimit pairLimit : ℕ) (limit : actionLimit ≤ 128) (s : List �
         (λ k f. Broken.in_types f)
 
     -- THE LAWS: accepted, exactly where it is a plan file
-    pub accepted_exactly : ((l : Layout) × (answer ≡ Accepted l)) ↔ PlanFile actionLimit pairLimit s
+    pub accepted_exactly : ((l : Layout) × (answer ≡ Accepted l)) ↔ PlanFile action_limit pair_limit s
     accepted_exactly = (λ (l, h). rw h at right, λ f. (layout f, file_accepted f))
 
     -- refused by a number, exactly where something is wrong that has the number
-    pub refused_exactly : (n : ℕ) → (answer ≡ Refused n) ↔ Broken actionLimit pairLimit s n
+    pub refused_exactly : (n : ℕ) → (answer ≡ Refused n) ↔ Broken action_limit pair_limit s n
     refused_exactly n = (λ h. rw h at right, broken_refused n)

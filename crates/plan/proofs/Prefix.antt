@@ -61,7 +61,7 @@ next_block : (b : Block) (f g : Part → Reading) → ((p : Part) → b ≡ Lies
 next_block (Lies p) f g h = h p refl
 next_block (Refused k) f g h = refl
 
-module _ (actionLimit pairLimit : ℕ) (s : List ℕ) (n : ℕ) (long : n ≤ length s) where
+module _ (action_limit pair_limit : ℕ) (s : List ℕ) (n : ℕ) (long : n ≤ length s) where
   -- from each block on, where what may still come lies in the beginning
   from_rule : (t p o : Part) → end_of o + 131 < n → with_nodes (take n s) t p o ≡ with_nodes s t p o
   from_rule t p o h =
@@ -81,16 +81,16 @@ module _ (actionLimit pairLimit : ℕ) (s : List ℕ) (n : ℕ) (long : n ≤ le
       let l = lying s (end_of p) 3 63 t.len o e in
       from_rule t p o (omega (arith, l.start, at_most ((sized_nodes 63 o.len).0 l.permitted)))))
 
-  from_pairs : (t : Part) → end_of t + 328 + 2 * pairLimit < n → with_types pairLimit (take n s) t ≡ with_types pairLimit s t
+  from_pairs : (t : Part) → end_of t + 328 + 2 * pair_limit < n → with_types pair_limit (take n s) t ≡ with_types pair_limit s t
   from_pairs t h =
-      rw (same_block s n long (end_of t) 2 pairLimit t.len (2 * pairLimit) (λ m e. at_most ((sized_pairs pairLimit m).0 e)) (omega arith))
-      (next_block (block_at s (end_of t) 2 pairLimit t.len) (with_pairs (take n s) t) (with_pairs s t) (λ p e.
-      let l = lying s (end_of t) 2 pairLimit t.len p e in
-      from_nodes t p (omega (arith, l.start, at_most ((sized_pairs pairLimit p.len).0 l.permitted)))))
+      rw (same_block s n long (end_of t) 2 pair_limit t.len (2 * pair_limit) (λ m e. at_most ((sized_pairs pair_limit m).0 e)) (omega arith))
+      (next_block (block_at s (end_of t) 2 pair_limit t.len) (with_pairs (take n s) t) (with_pairs s t) (λ p e.
+      let l = lying s (end_of t) 2 pair_limit t.len p e in
+      from_nodes t p (omega (arith, l.start, at_most ((sized_pairs pair_limit p.len).0 l.permitted)))))
 
-  pub beginning_decides : 332 + actionLimit + 2 * pairLimit < n → read_within actionLimit pairLimit (take n s) ≡ read_within actionLimit pairLimit s
+  pub beginning_decides : 332 + action_limit + 2 * pair_limit < n → read_within action_limit pair_limit (take n s) ≡ read_within action_limit pair_limit s
   beginning_decides h =
-      rw (same_block s n long 0 1 actionLimit 0 actionLimit (λ m e. omega (arith, at_most ((sized_bytes actionLimit m).0 e))) (omega arith))
-      (next_block (block_at s 0 1 actionLimit 0) (with_types pairLimit (take n s)) (with_types pairLimit s) (λ t e.
-      let l = lying s 0 1 actionLimit 0 t e in
-      from_pairs t (omega (arith, l.start, at_most ((sized_bytes actionLimit t.len).0 l.permitted)))))
+      rw (same_block s n long 0 1 action_limit 0 action_limit (λ m e. omega (arith, at_most ((sized_bytes action_limit m).0 e))) (omega arith))
+      (next_block (block_at s 0 1 action_limit 0) (with_types pair_limit (take n s)) (with_types pair_limit s) (λ t e.
+      let l = lying s 0 1 action_limit 0 t e in
+      from_pairs t (omega (arith, l.start, at_most ((sized_bytes action_limit t.len).0 l.permitted)))))

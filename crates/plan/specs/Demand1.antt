@@ -27,7 +27,7 @@ InBlocks s l = s ≡ block 1 (bytes_of s l.types) ++ (block 2 (bytes_of s l.pair
 
 -- the four bodies of an accepted file have the lengths and the contents that they may have
 abbrev pub Holds : ℕ → ℕ → List ℕ → Layout → Type 0
-Holds actionLimit pairLimit s l = Bodies actionLimit pairLimit (bytes_of s l.types) (bytes_of s l.pairs) (bytes_of s l.nodes) (bytes_of s l.rule)
+Holds action_limit pair_limit s l = Bodies action_limit pair_limit (bytes_of s l.types) (bytes_of s l.pairs) (bytes_of s l.nodes) (bytes_of s l.rule)
 
 -- the process of a node list: every node is in the tree of the last one, its leaves are the nodes of forms 0 to 2, each once, and it
 -- has no more levels of undos than a plan may have
@@ -44,16 +44,16 @@ pub record Demand1 : Type 0 where
   -- and refused by a number exactly where that is document 01's number for what is wrong with it
   pub refuses : (s : List ℕ) → Bytes s → (n : ℕ) → (read_of s ≡ Refused n) ↔ Broken most_actions most_pairs s n
   -- and so it is under other limits for actions and pairs, which another call may read with
-  pub accepts_within : (actionLimit pairLimit : ℕ) → actionLimit ≤ 128 → (s : List ℕ) → Bytes s
-      → ((l : Layout) × (read_within actionLimit pairLimit s ≡ Accepted l)) ↔ PlanFile actionLimit pairLimit s
-  pub refuses_within : (actionLimit pairLimit : ℕ) → actionLimit ≤ 128 → (s : List ℕ) → Bytes s → (n : ℕ)
-      → (read_within actionLimit pairLimit s ≡ Refused n) ↔ Broken actionLimit pairLimit s n
+  pub accepts_within : (action_limit pair_limit : ℕ) → action_limit ≤ 128 → (s : List ℕ) → Bytes s
+      → ((l : Layout) × (read_within action_limit pair_limit s ≡ Accepted l)) ↔ PlanFile action_limit pair_limit s
+  pub refuses_within : (action_limit pair_limit : ℕ) → action_limit ≤ 128 → (s : List ℕ) → Bytes s → (n : ℕ)
+      → (read_within action_limit pair_limit s ≡ Refused n) ↔ Broken action_limit pair_limit s n
   -- of pairs that keep the pair rule no four have one first
   pub no_fourth : (actions : ℕ) (pairs : List ℕ) → Pairs actions pairs → (h i j k : ℕ) → h < i → i < j → j < k → k < pair_count pairs
       → first pairs h ≡ first pairs k → first pairs i ≡ first pairs k → first pairs j ≡ first pairs k → ⊥
   -- the limit of pairs that goes with a limit of actions, 21 with ten and 63 with 24, turns away no pairs that keep the pair rule
-  pub most_pairs_lem : (actionLimit actions : ℕ) (pairs : List ℕ) → 5 ≤ actionLimit → actions ≤ actionLimit → Pairs actions pairs
-      → pair_count pairs ≤ 3 * (actionLimit - 3)
+  pub most_pairs_lem : (action_limit actions : ℕ) (pairs : List ℕ) → 5 ≤ action_limit → actions ≤ action_limit → Pairs actions pairs
+      → pair_count pairs ≤ 3 * (action_limit - 3)
   -- of nodes that neither 6 nor 7 is for, 8 is for just those whose process has more levels of undos than a plan may have
   pub levels : (actions : ℕ) (types nodes : List ℕ) → FormRules actions nodes → EachNamedOnce nodes → 1 ≤ count nodes
       → NotTooDeep nodes ↔ Shallow (process_of types nodes)

@@ -30,11 +30,11 @@ most_bytes = 384
 
 -- The lengths that a body may have. "Kind 1, types: one byte for each action, 1 to 10 actions"
 abbrev pub TypesSize : ℕ → ℕ → Type 0
-TypesSize actionLimit n = Items 1 1 actionLimit n
+TypesSize action_limit n = Items 1 1 action_limit n
 
 -- "Kind 2, undo pairs: two bytes each", as many as the limit says
 abbrev pub PairsSize : ℕ → ℕ → Type 0
-PairsSize pairLimit n = Items 2 0 pairLimit n
+PairsSize pair_limit n = Items 2 0 pair_limit n
 
 -- "Kind 3, nodes: three bytes each (form, left, right), 1 to 63 nodes"
 abbrev pub NodesSize : ℕ → Type 0
@@ -50,11 +50,11 @@ pub record Body (Size : ℕ → Type 0) (Contents : List ℕ → Type 0) (body :
   pub holds : Contents body
 
 abbrev pub TypesBody : ℕ → List ℕ → Type 0
-TypesBody actionLimit types = Body (TypesSize actionLimit) Types types
+TypesBody action_limit types = Body (TypesSize action_limit) Types types
 
 -- these three of a plan of so many actions
 abbrev pub PairsBody : ℕ → ℕ → List ℕ → Type 0
-PairsBody pairLimit actions pairs = Body (PairsSize pairLimit) (Pairs actions) pairs
+PairsBody pair_limit actions pairs = Body (PairsSize pair_limit) (Pairs actions) pairs
 
 abbrev pub NodesBody : ℕ → List ℕ → Type 0
 NodesBody actions nodes = Body NodesSize (NodeRules actions) nodes
@@ -63,24 +63,24 @@ abbrev pub RuleBody : ℕ → List ℕ → Type 0
 RuleBody actions rule = Body RuleSize (Rule actions) rule
 
 -- the four bodies are in order; there are as many actions as types
-pub record Bodies (actionLimit pairLimit : ℕ) (types pairs nodes rule : List ℕ) : Type 0 where
-  pub types_hold : TypesBody actionLimit types
-  pub pairs_hold : PairsBody pairLimit (length types) pairs
+pub record Bodies (action_limit pair_limit : ℕ) (types pairs nodes rule : List ℕ) : Type 0 where
+  pub types_hold : TypesBody action_limit types
+  pub pairs_hold : PairsBody pair_limit (length types) pairs
   pub nodes_hold : NodesBody (length types) nodes
   pub rule_holds : RuleBody (length types) rule
 
-pub record PlanFile (actionLimit pairLimit : ℕ) (s : List ℕ) : Type 0 where
+pub record PlanFile (action_limit pair_limit : ℕ) (s : List ℕ) : Type 0 where
   pub types : List ℕ
   pub pairs : List ℕ
   pub nodes : List ℕ
   pub rule : List ℕ
   -- "A file is exactly four blocks, kinds 1, 2, 3, 4 in that order."
   pub blocks : s ≡ block 1 types ++ (block 2 pairs ++ (block 3 nodes ++ block 4 rule))
-  pub hold : Bodies actionLimit pairLimit types pairs nodes rule
+  pub hold : Bodies action_limit pair_limit types pairs nodes rule
 
 -- What running a plan rests on: its types and its nodes, as a file has them that is accepted within a limit for actions.
-pub record RunnableWithin (actionLimit : ℕ) (types nodes : List ℕ) : Type 0 where
-  pub types_few : length types ≤ actionLimit
+pub record RunnableWithin (action_limit : ℕ) (types nodes : List ℕ) : Type 0 where
+  pub types_few : length types ≤ action_limit
   pub types_hold : Types types
   pub nodes_some : 3 ≤ length nodes
   pub nodes_few : length nodes ≤ 189

@@ -82,11 +82,11 @@ abbrev pub with_pairs : List ℕ → Part → Part → Reading
 with_pairs s types pairs = on_block (block_at s (end_of pairs) 3 node_limit types.len) (with_nodes s types pairs)
 
 abbrev pub with_types : ℕ → List ℕ → Part → Reading
-with_types pairLimit s types = on_block (block_at s (end_of types) 2 pairLimit types.len) (with_pairs s types)
+with_types pair_limit s types = on_block (block_at s (end_of types) 2 pair_limit types.len) (with_pairs s types)
 
 -- the answer under limits for actions and pairs
 abbrev pub read_within : ℕ → ℕ → List ℕ → Reading
-read_within actionLimit pairLimit s = on_block (block_at s 0 1 actionLimit 0) (with_types pairLimit s)
+read_within action_limit pair_limit s = on_block (block_at s 0 1 action_limit 0) (with_types pair_limit s)
 
 -- the answer for a plan file
 abbrev pub read_of : List ℕ → Reading

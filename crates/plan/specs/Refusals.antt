@@ -15,7 +15,7 @@ pub data BlockFault (kind : ℕ) (Size : ℕ → Type 0) (Fault : List ℕ → �
   -- "heading .. cut short"
   cut_heading : length rest < 4 → BlockFault kind Size Fault rest 1
   -- "not the kind due"
-  other_kind_lem : (len other : ℕ) (tail : List ℕ) → rest ≡ two len ++ (two other ++ tail) → (other ≡ kind → ⊥) → BlockFault kind Size Fault rest 2
+  other_kind : (len other : ℕ) (tail : List ℕ) → rest ≡ two len ++ (two other ++ tail) → (other ≡ kind → ⊥) → BlockFault kind Size Fault rest 2
   -- "body length not permitted"
   other_length : (len : ℕ) (tail : List ℕ) → rest ≡ two len ++ (two kind ++ tail) → (Size len → ⊥) → BlockFault kind Size Fault rest 3
   -- "body cut short"
@@ -48,16 +48,16 @@ abbrev pub RuleFault : ℕ → List ℕ → ℕ → Type 0
 RuleFault actions rule n = Unless (Rule actions rule) 9 n
 
 -- The number of what is wrong with the file s: in one of its four blocks, where those before it are in order, or after the fourth.
-pub data Broken (actionLimit pairLimit : ℕ) (s : List ℕ) : ℕ → Type 0 where
-  in_types : {n : ℕ} → BlockFault 1 (TypesSize actionLimit) TypesFault s n → Broken actionLimit pairLimit s n
-  in_pairs : (types rest : List ℕ) {n : ℕ} → s ≡ block 1 types ++ rest → TypesBody actionLimit types
-      → BlockFault 2 (PairsSize pairLimit) (PairsFault (length types)) rest n → Broken actionLimit pairLimit s n
+pub data Broken (action_limit pair_limit : ℕ) (s : List ℕ) : ℕ → Type 0 where
+  in_types : {n : ℕ} → BlockFault 1 (TypesSize action_limit) TypesFault s n → Broken action_limit pair_limit s n
+  in_pairs : (types rest : List ℕ) {n : ℕ} → s ≡ block 1 types ++ rest → TypesBody action_limit types
+      → BlockFault 2 (PairsSize pair_limit) (PairsFault (length types)) rest n → Broken action_limit pair_limit s n
   in_nodes : (types pairs rest : List ℕ) {n : ℕ} → s ≡ block 1 types ++ (block 2 pairs ++ rest)
-      → TypesBody actionLimit types → PairsBody pairLimit (length types) pairs
-      → BlockFault 3 NodesSize (NodesFault (length types)) rest n → Broken actionLimit pairLimit s n
+      → TypesBody action_limit types → PairsBody pair_limit (length types) pairs
+      → BlockFault 3 NodesSize (NodesFault (length types)) rest n → Broken action_limit pair_limit s n
   in_rule : (types pairs nodes rest : List ℕ) {n : ℕ} → s ≡ block 1 types ++ (block 2 pairs ++ (block 3 nodes ++ rest))
-      → TypesBody actionLimit types → PairsBody pairLimit (length types) pairs → NodesBody (length types) nodes
-      → BlockFault 4 RuleSize (RuleFault (length types)) rest n → Broken actionLimit pairLimit s n
+      → TypesBody action_limit types → PairsBody pair_limit (length types) pairs → NodesBody (length types) nodes
+      → BlockFault 4 RuleSize (RuleFault (length types)) rest n → Broken action_limit pair_limit s n
   -- "bytes after block four"
   bytes_after : (types pairs nodes rule tail : List ℕ) → s ≡ block 1 types ++ (block 2 pairs ++ (block 3 nodes ++ (block 4 rule ++ tail)))
-      → Bodies actionLimit pairLimit types pairs nodes rule → 0 < length tail → Broken actionLimit pairLimit s 1
+      → Bodies action_limit pair_limit types pairs nodes rule → 0 < length tail → Broken action_limit pair_limit s 1

@@ -45,10 +45,10 @@ pub record Doubling (s : List ℕ) (k n j : ℕ) (r : List ℕ) : Type 0 where
   pub added : (x : ℕ) → x < j → Spread (get_or s x 0) (2 ^ k) (get_or r (n + x) 0)
 
 pub doubling_none : (s : List ℕ) (k n : ℕ) → k < 6 → length s ≡ 64 → n ≡ 2 ^ k → Doubling s k n 0 s
-doubling_none s k n l sixty-four e = record {
+doubling_none s k n l sixty_four e = record {
   size = e;
   half = omega (arith, pow_mono {i = k} {j = 5} (omega arith));
-  long = sixty-four;
+  long = sixty_four;
   most = omega arith;
   kept = λ x h. refl;
   added = λ x h. absurd (omega arith);

@@ -35,7 +35,7 @@ by_answer s work work' old new Consistent x j e =
     let zeros : List ℕ = replicate record_size 0 in
     let long : length zeros ≡ record_size = length-replicate {A = ℕ} record_size 0 in
     record {
-      cleared = j.work_after_lem;
+      cleared = j.area_after;
       run = λ e. absurd (true≢false e);
       zeros = λ e. front zeros old new long j.record_after;
       later = rest zeros old new long j.record_after;
@@ -44,7 +44,7 @@ by_answer s work work' old new (Violated t) x j e =
     let r = j.record_after in
     let f = front r.bytes old new r.shows.long r.is in
     record {
-      cleared = j.work_after_lem;
+      cleared = j.area_after;
       run = λ e. rw f r.shows.padded;
       zeros = λ e. absurd (true≢false (sym e));
       later = rest r.bytes old new r.shows.long r.is;

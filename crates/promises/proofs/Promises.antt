@@ -25,7 +25,7 @@ use Rattle.session.proofs.Hearing.{answers_lines}
 use Rattle.report.proofs.Once.{one_text, one_named_text}
 use Rattle.sheet.proofs.Tells.{class_tells}
 use Rattle.handed.proofs.HandIn.{hands_in}
-use Rattle.sheet.proofs.Examples as of-sheet
+use Rattle.sheet.proofs.Examples as of_sheet
 use Rattle.fields.proofs.TellsJobs.{tells_jobs}
 use Rattle.vectors.proofs.AgreesAlone.{agrees_alone}
 use Rattle.tried.proofs.TriedPlans.{tried_plans_lem, nested_plans_lem}
@@ -77,7 +77,7 @@ promises = record {
   one_named_text = one_named_text;
   class_told = class_tells;
   handed_in = hands_in;
-  sheet = of-sheet.examples;
+  sheet = of_sheet.examples;
   jobs = tells_jobs;
   vectors = agrees_alone;
   reader_itself = demand1;

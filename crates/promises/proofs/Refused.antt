@@ -52,7 +52,7 @@ nodes_number actions nodes _ (NodesFault.eight f g h) = (omega arith, omega arit
 
 block_number : (kind : ℕ) (Size : ℕ → Type 0) (Fault : List ℕ → ℕ → Type 0) (rest : List ℕ) (n : ℕ) → ((body : List ℕ) (m : ℕ) → Fault body m → Number m) → BlockFault kind Size Fault rest n → Number n
 block_number kind Size Fault rest _ h (BlockFault.cut_heading e) = (omega arith, omega arith)
-block_number kind Size Fault rest _ h (BlockFault.other_kind_lem len other tail e f) = (omega arith, omega arith)
+block_number kind Size Fault rest _ h (BlockFault.other_kind len other tail e f) = (omega arith, omega arith)
 block_number kind Size Fault rest _ h (BlockFault.other_length len tail e f) = (omega arith, omega arith)
 block_number kind Size Fault rest _ h (BlockFault.cut_body len tail e f g) = (omega arith, omega arith)
 block_number kind Size Fault rest n h (BlockFault.contents body tail e f g) = h body n g
@@ -140,7 +140,7 @@ on_number s (reading.Refused n) = refl
 refusal_changes_nothing : (s work work' old new : List ℕ) (v : Judgement) → Judged s work work' old new v → (n : ℕ) → verdict.number_of v ≡ some n → (work' ≡ work) × (new ≡ old)
 refusal_changes_nothing s work work' old new Consistent j n h = absurd (none-ne-some n h)
 refusal_changes_nothing s work work' old new (Violated t) j n h = absurd (none-ne-some n h)
-refusal_changes_nothing s work work' old new (Refused k) j n h = (j.work_after_lem, j.record_after)
+refusal_changes_nothing s work work' old new (Refused k) j n h = (j.area_after, j.record_after)
 
 -- what is found is an answer that judges
 found_judges : (x : Least) → Judges (verdict.answer_of x)

@@ -4,12 +4,12 @@ use Rattle.text.specs.Decimal.{Spells}
 use Rattle.hours.specs.Windows.{ReadsWindows}
 use Rattle.hours.specs.Hours.{KeepsWindows}
 use Rattle.hours.specs.Kept.{KeepsRecords}
-use Rattle.plan.specs.Demand1 as of-plan
+use Rattle.plan.specs.Demand1 as of_plan
 use Rattle.plan.specs.Traces.{PlanTraces}
-use Rattle.job.specs.Demand2 as of-job
+use Rattle.job.specs.Demand2 as of_job
 use Rattle.job.specs.PromisedEnd.{PromisedEnd}
 use Rattle.job.specs.TimedRunner.{TimedRunner}
-use Rattle.judge.specs.Demand3 as of-judge
+use Rattle.judge.specs.Demand3 as of_judge
 use Rattle.judge.specs.Codes.{CodesApart}
 use Rattle.judge.specs.Record.{SomeAnswer}
 use Rattle.class.specs.Promises.{ClassPromises}
@@ -26,7 +26,7 @@ use Rattle.session.specs.Session.{AnswersLines}
 use Rattle.report.specs.Tells.{OneText, OneNamedText}
 use Rattle.sheet.specs.Tells.{ClassTells}
 use Rattle.handed.specs.HandIn.{HandsIn}
-use Rattle.sheet.specs.Examples as of-sheet
+use Rattle.sheet.specs.Examples as of_sheet
 use Rattle.fields.specs.Jobs.{TellsJobs}
 use Rattle.vectors.specs.Agrees.{AgreesAlone}
 use Rattle.tried.specs.TriedPlans.{TriedPlans}
@@ -71,13 +71,13 @@ pub record Promises : Type 0 where
   pub one_named_text : OneNamedText
   pub class_told : ClassTells
   pub handed_in : HandsIn
-  pub sheet : of-sheet.Examples
+  pub sheet : of_sheet.Examples
   pub jobs : TellsJobs
   pub vectors : AgreesAlone
   -- the reader, the runner and the verdict, each of itself
-  pub reader_itself : of-plan.Demand1
-  pub runner_itself : of-job.Demand2
-  pub verdict_itself : of-judge.Demand3
+  pub reader_itself : of_plan.Demand1
+  pub runner_itself : of_job.Demand2
+  pub verdict_itself : of_judge.Demand3
   pub some_answer : SomeAnswer
   pub codes : CodesApart
   -- the tried plans

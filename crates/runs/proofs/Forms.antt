@@ -199,11 +199,11 @@ node_runs choice wP wQ FP FQ W = choice_runs wP wQ FP FQ
 node_runs compensation wP wQ FP FQ W = compensation_runs wP wQ FP
 node_runs handler wP wQ FP FQ W = handler_runs wP wQ FP FQ (W FP)
 
-module _ (k : ℕ) (less-deep : (N : Process) → UndoWithin k (fresh N) → WholeRuns N) where
+module _ (k : ℕ) (less_deep : (N : Process) → UndoWithin k (fresh N) → WholeRuns N) where
   forward_runs : (P : Process) → Within k P → ForwardRuns P
   forward_runs done g = absurd g.written
   forward_runs (leaf n kind) g = leaf_runs n kind
-  forward_runs (node f P Q) g = node_runs f g.written.0 g.written.1 (forward_runs P (left_within g)) (forward_runs Q (right_within g)) (λ F. whole_runs k P (left_within g) F less-deep)
+  forward_runs (node f P Q) g = node_runs f g.written.0 g.written.1 (forward_runs P (left_within g)) (forward_runs Q (right_within g)) (λ F. whole_runs k P (left_within g) F less_deep)
 
 fresh_done : (N : Process) → fresh N ≡ m_done → WholeRuns N
 fresh_done N e = let d : done ≡ N = ap unmarked (sym e) ∙ unmarked_fresh N in rw (← d) whole_done

@@ -19,21 +19,21 @@ abbrev Stops : Ended → Bool → ℕ → Type 0
 Stops x begun next = (s : Status) → x ≡ ending s → (begun ≡ true) × (next ≡ 0)
 
 -- A composite that has ended has begun, and in a side of it that may still go on no leaf comes next.
-record NodeOver (f : Form) (x : Ended) (x-begun y-begun x-over : Bool) (x-next x-whole y-next : ℕ) : Type 0 where
-  has_begun_lem : node_begun f x-begun y-begun ≡ true
-  left_stops : left_may f y-begun ≡ true → left_next f x-next x-whole ≡ 0
-  right_stops : right_may f x x-begun x-over ≡ true → y-next ≡ 0
+record NodeOver (f : Form) (x : Ended) (x_begun y_begun x_over : Bool) (x_next x_whole y_next : ℕ) : Type 0 where
+  has_begun_lem : node_begun f x_begun y_begun ≡ true
+  left_stops : left_may f y_begun ≡ true → left_next f x_next x_whole ≡ 0
+  right_stops : right_may f x x_begun x_over ≡ true → y_next ≡ 0
 
-module _ {x-begun y-begun x-over : Bool} {x-next x-whole y-next : ℕ} where
-  node_over : (f : Form) (x y : Ended) (s : Status) → Stops x x-begun x-next → Stops y y-begun y-next → (x ≡ Succeeded → x-whole ≡ 0) → (x ≡ Succeeded → x-over ≡ false) → node_ended f x y y-begun ≡ ending s → NodeOver f x x-begun y-begun x-over x-next x-whole y-next
+module _ {x_begun y_begun x_over : Bool} {x_next x_whole y_next : ℕ} where
+  node_over : (f : Form) (x y : Ended) (s : Status) → Stops x x_begun x_next → Stops y y_begun y_next → (x ≡ Succeeded → x_whole ≡ 0) → (x ≡ Succeeded → x_over ≡ false) → node_ended f x y y_begun ≡ ending s → NodeOver f x x_begun y_begun x_over x_next x_whole y_next
   node_over sequence Open y s l r w o h = not_open s refl h
   node_over sequence Succeeded y s l r w o h = record { has_begun_lem = rw (l ok refl).0; left_stops = λ e. (l ok refl).1; right_stops = λ e. (r s h).1 }
   node_over sequence Failed y s l r w o h = record { has_begun_lem = rw (l fail refl).0; left_stops = λ e. (l fail refl).1; right_stops = λ e. not_both e refl }
   node_over parallel x y s l r w o h = let p = parallel_ends x y s h in record { has_begun_lem = rw (l p.left p.left_ends).0; left_stops = λ e. (l p.left p.left_ends).1; right_stops = λ e. (r p.right p.right_ends).1 }
-  node_over choice x y s l r w o h = by y-begun refl h
+  node_over choice x y s l r w o h = by y_begun refl h
     where
-      by : (b : Bool) → y-begun ≡ b → cond b y x ≡ ending s → NodeOver choice x x-begun y-begun x-over x-next x-whole y-next
-      by true e h = record { has_begun_lem = rw e (or_true x-begun); left_stops = λ i. not_both e (of_not i); right_stops = λ i. (r s h).1 }
+      by : (b : Bool) → y_begun ≡ b → cond b y x ≡ ending s → NodeOver choice x x_begun y_begun x_over x_next x_whole y_next
+      by true e h = record { has_begun_lem = rw e (or_true x_begun); left_stops = λ i. not_both e (of_not i); right_stops = λ i. (r s h).1 }
       by false e h = record { has_begun_lem = rw (l s h).0; left_stops = λ i. (l s h).1; right_stops = λ i. not_both (l s h).0 (of_not i) }
   node_over compensation x y s l r w o h = record { has_begun_lem = (l s h).0; left_stops = λ e. (l s h).1; right_stops = λ e. not_both e refl }
   node_over handler Open y s l r w o h = not_open s refl h
@@ -52,15 +52,15 @@ neither_next false true m n h i = rw (i refl)
 neither_next false false m n h i = refl
 
 -- A composite of sides that are there. Where the left has succeeded its whole has no next leaf, and has not failed.
-module _ {x y : Cell} (X : Settles x) (Y : Settles y) (x-there : x.empty ≡ false) (y-there : y.empty ≡ false) where
-  node_settles : (f : Form) (x-whole : ℕ) (x-over : Bool) → (x.ended ≡ Succeeded → x-whole ≡ 0) → (x.ended ≡ Succeeded → x-over ≡ false) → Settles (node_cell f x y (left_next f x.next x-whole) x-over)
+module _ {x y : Cell} (X : Settles x) (Y : Settles y) (x_there : x.empty ≡ false) (y_there : y.empty ≡ false) where
+  node_settles : (f : Form) (x_whole : ℕ) (x_over : Bool) → (x.ended ≡ Succeeded → x_whole ≡ 0) → (x.ended ≡ Succeeded → x_over ≡ false) → Settles (node_cell f x y (left_next f x.next x_whole) x_over)
   node_settles f n o w v = record {
     begins = λ e s h. (over s h).has_begun_lem;
     stops = λ s h. neither_next (left_may f y.begun) (right_may f x.ended x.begun o) (left_next f x.next n) y.next (over s h).left_stops (over s h).right_stops;
   }
     where
       over : (s : Status) → node_ended f x.ended y.ended y.begun ≡ ending s → NodeOver f x.ended x.begun y.begun o x.next n y.next
-      over s h = node_over f x.ended y.ended s (λ t e. (X.begins x-there t e, X.stops t e)) (λ t e. (Y.begins y-there t e, Y.stops t e)) w v h
+      over s h = node_over f x.ended y.ended s (λ t e. (X.begins x_there t e, X.stops t e)) (λ t e. (Y.begins y_there t e, Y.stops t e)) w v h
 
   pair_settles : {f : Form} → Pairing f → Settles (node_cell f x y x.next false)
   pair_settles in_sequence = node_settles sequence 0 false (λ e. refl) (λ e. refl)

@@ -65,29 +65,29 @@ module _ (n : ℕ) (s : Status) where
   ShowsAll a T = (i : ℕ) → Shows (a i) (level i T)
 
   -- A composite.
-  right_iff : (f : Form) {x : Cell} {x-over : Bool} {A : Marked} → Shows x A → (x-over ≡ true) ↔ WholeEnds A fail → (right_may f x.ended x.begun x-over ≡ true) ↔ RightMay f A
+  right_iff : (f : Form) {x : Cell} {x_over : Bool} {A : Marked} → Shows x A → (x_over ≡ true) ↔ WholeEnds A fail → (right_may f x.ended x.begun x_over ≡ true) ↔ RightMay f A
   right_iff sequence {x} S R = (λ e. sym S.same_ended ∙ of_succeeded x.ended e, λ h. ap is_succeeded (S.same_ended ∙ h))
   right_iff parallel S R = (λ e. tt, λ h. refl)
   right_iff choice {x} S R = (λ e. sym S.same_begun ∙ of_not e, λ h. ap not (S.same_begun ∙ h))
   right_iff compensation S R = (λ e. not_both e refl, λ h. absurd h)
   right_iff handler S R = R
 
-  shows_node : (f : Form) (x-over : Bool) (x-next : ℕ) {x y : Cell} {A B : Marked} → Shows x A → Shows y B → Holds x-next n ↔ Goes (left_mode f) A → (right_may f x.ended x.begun x-over ≡ true) ↔ RightMay f A → Shows (node_cell f x y x-next x-over) (m_node f A B)
-  shows_node f x-over x-next {x} {y} {A} {B} S Z L R = record {
+  shows_node : (f : Form) (x_over : Bool) (x_next : ℕ) {x y : Cell} {A B : Marked} → Shows x A → Shows y B → Holds x_next n ↔ Goes (left_mode f) A → (right_may f x.ended x.begun x_over ≡ true) ↔ RightMay f A → Shows (node_cell f x y x_next x_over) (m_node f A B)
+  shows_node f x_over x_next {x} {y} {A} {B} S Z L R = record {
     same_empty = refl;
     same_begun = rw (S.same_begun, Z.same_begun);
     same_ended = rw (Z.same_begun, S.same_ended, Z.same_ended);
     same_next = (
-      λ h. union_holds n (left_may f y.begun) (right_may f x.ended x.begun x-over) x-next y.next h
+      λ h. union_holds n (left_may f y.begun) (right_may f x.ended x.begun x_over) x_next y.next h
           (λ g i. (_, on_left (rw Z.same_begun at g) (L.0 i).1))
           (λ g i. (_, on_right (R.0 g) (Z.same_next.0 i).1)),
       λ g. held g.1,
     );
   }
     where
-      held : {T : Marked} → Step forward (m_node f A B) (entry n s) T → Holds (node_cell f x y x-next x-over).next n
-      held (on_left h t) = left_holds n (left_may f y.begun) x-next (given (right_may f x.ended x.begun x-over) y.next) (rw Z.same_begun h) (L.1 (_, t))
-      held (on_right h t) = right_holds n (given (left_may f y.begun) x-next) (right_may f x.ended x.begun x-over) y.next (R.1 h) (Z.same_next.1 (_, t))
+      held : {T : Marked} → Step forward (m_node f A B) (entry n s) T → Holds (node_cell f x y x_next x_over).next n
+      held (on_left h t) = left_holds n (left_may f y.begun) x_next (given (right_may f x.ended x.begun x_over) y.next) (rw Z.same_begun h) (L.1 (_, t))
+      held (on_right h t) = right_holds n (given (left_may f y.begun) x_next) (right_may f x.ended x.begun x_over) y.next (R.1 h) (Z.same_next.1 (_, t))
 
   -- Joined undos.
   shows_pick : {a b : Bool} {x y : Cell} {U W : Marked} → a ≡ b → Shows x U → Shows y W → Shows (cond a x y) (cond b U W)

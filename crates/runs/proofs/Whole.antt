@@ -80,9 +80,9 @@ pub record WholeRuns (P : Process) : Type 0 where
   pub from : {p : Run} {s : Status} {T : Marked} → Reached whole P p T → WholeEnds T s → Complete P p s
   pub go : {p : Run} {T : Marked} → Reached whole P p T → WholeCanEnd T
 
-module _ (k : ℕ) (P : Process) (g : Within k P) (F : ForwardRuns P) (less-deep : (N : Process) → UndoWithin k (fresh N) → WholeRuns N) where
+module _ (k : ℕ) (P : Process) (g : Within k P) (F : ForwardRuns P) (less_deep : (N : Process) → UndoWithin k (fresh N) → WholeRuns N) where
   undo_runs : (T : Marked) (N : Process) → unmarked T ≡ P → undo T ≡ fresh N → WholeRuns N
-  undo_runs T N e u = less-deep N (rw u at (undo_within k T (rw e g)))
+  undo_runs T N e u = less_deep N (rw u at (undo_within k T (rw e g)))
 
   to_whole : {p : Run} {s : Status} → Complete P p s → (T : Marked) × Steps whole (fresh P) p T × WholeEnds T s
   to_whole (c_ok f) = let (T, r, h, u) = F.to f in (T, steps_going (reach_fresh P) r, ends_ok h)

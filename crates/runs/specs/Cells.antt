@@ -95,35 +95,35 @@ handler_ended Failed y = y
 
 -- How a composite has ended, from how its sides have ended and whether the right has begun.
 abbrev pub node_ended : Form → Ended → Ended → Bool → Ended
-node_ended sequence x y y-begun = sequence_ended x y
-node_ended parallel x y y-begun = parallel_ended x y
-node_ended choice x y y-begun = cond y-begun y x
-node_ended compensation x y y-begun = x
-node_ended handler x y y-begun = handler_ended x y
+node_ended sequence x y y_begun = sequence_ended x y
+node_ended parallel x y y_begun = parallel_ended x y
+node_ended choice x y y_begun = cond y_begun y x
+node_ended compensation x y y_begun = x
+node_ended handler x y y_begun = handler_ended x y
 
 -- May the left side go on, by whether the right has begun?
 abbrev pub left_may : Form → Bool → Bool
-left_may sequence y-begun = not y-begun
-left_may parallel y-begun = true
-left_may choice y-begun = not y-begun
-left_may compensation y-begun = true
-left_may handler y-begun = not y-begun
+left_may sequence y_begun = not y_begun
+left_may parallel y_begun = true
+left_may choice y_begun = not y_begun
+left_may compensation y_begun = true
+left_may handler y_begun = not y_begun
 
--- May the right side go on, by the left? `x-over`: the left has failed and its undo has ended, with success or without.
+-- May the right side go on, by the left? `x_over`: the left has failed and its undo has ended, with success or without.
 abbrev pub right_may : Form → Ended → Bool → Bool → Bool
-right_may sequence x x-begun x-over = is_succeeded x
-right_may parallel x x-begun x-over = true
-right_may choice x x-begun x-over = not x-begun
-right_may compensation x x-begun x-over = false
-right_may handler x x-begun x-over = x-over
+right_may sequence x x_begun x_over = is_succeeded x
+right_may parallel x x_begun x_over = true
+right_may choice x x_begun x_over = not x_begun
+right_may compensation x x_begun x_over = false
+right_may handler x x_begun x_over = x_over
 
--- A composite of the cells x and y. `x-next`: what may come next in its left side.
+-- A composite of the cells x and y. `x_next`: what may come next in its left side.
 abbrev pub node_cell : Form → Cell → Cell → ℕ → Bool → Cell
-node_cell f x y x-next x-over = record {
+node_cell f x y x_next x_over = record {
   empty = false;
   begun = node_begun f x.begun y.begun;
   ended = node_ended f x.ended y.ended y.begun;
-  next = bit_or (given (left_may f y.begun) x-next) (given (right_may f x.ended x.begun x-over) y.next);
+  next = bit_or (given (left_may f y.begun) x_next) (given (right_may f x.ended x.begun x_over) y.next);
 }
 
 -- Two undos as one, by a sequence or a parallel: an empty one falls away.
@@ -158,11 +158,11 @@ whole_next (suc depth) a = bit_or (given (not (a (suc zero)).begun) (a zero).nex
 
 -- What may come next in a left side: in a handler's, which runs with its undo, by the whole of it.
 abbrev pub left_next : Form → ℕ → ℕ → ℕ
-left_next sequence x-next x-whole = x-next
-left_next parallel x-next x-whole = x-next
-left_next choice x-next x-whole = x-next
-left_next compensation x-next x-whole = x-next
-left_next handler x-next x-whole = x-whole
+left_next sequence x_next x_whole = x_next
+left_next parallel x_next x_whole = x_next
+left_next choice x_next x_whole = x_next
+left_next compensation x_next x_whole = x_next
+left_next handler x_next x_whole = x_whole
 
 -- x, then y, at level i of an undo: the undo of a sequence runs in the other order, its undo's undo in the first order again.
 abbrev pub in_turn : ℕ → Cell → Cell → Cell

@@ -62,13 +62,13 @@ abbrev in_minute : Number → Number → Number → Line
 in_minute x y z = record { leaf = x; outcome = y; minute = z; blanks = 2 }
 
 -- bytes that are no blanks go to the number at hand
-module _ (at-hand : Number → Line) (step : (x : Number) (b : ℕ) → eqb b 32 ≡ false → line_after (at-hand x) b ≡ at-hand (digit_after x b)) where
-  read_on : (x : Number) (bs rest : List ℕ) → NoBlank bs → line_of (at-hand x) (bs ++ rest) ≡ line_of (at-hand (digits x bs)) rest
+module _ (at_hand : Number → Line) (step : (x : Number) (b : ℕ) → eqb b 32 ≡ false → line_after (at_hand x) b ≡ at_hand (digit_after x b)) where
+  read_on : (x : Number) (bs rest : List ℕ) → NoBlank bs → line_of (at_hand x) (bs ++ rest) ≡ line_of (at_hand (digits x bs)) rest
   unfolding line_of digits
   read_on x [] rest h = refl
   read_on x (b ∷ bs) rest h = ap (λ (l : Line). line_of l (bs ++ rest)) (step x b h.0) ∙ read_on (digit_after x b) bs rest h.1
 
-  read_out : (x : Number) (bs : List ℕ) → NoBlank bs → line_of (at-hand x) bs ≡ at-hand (digits x bs)
+  read_out : (x : Number) (bs : List ℕ) → NoBlank bs → line_of (at_hand x) bs ≡ at_hand (digits x bs)
   unfolding line_of
   read_out x bs h = rw (append-nil bs) at (read_on x bs [] h)
 
@@ -117,9 +117,9 @@ one_text line Unwritten = tt
 one_text line (Is n) = tt
 one_text line Wrong = tt
 
-fitting_text : (l o : List ℕ) (n k : ℕ) (n-large k-large : Bool) → ltb 255 n ≡ n-large → ltb 255 k ≡ k-large → Decimal n l → Decimal k o
-    → TextOf (l ++ (32 ∷ o)) (cond n-large found.NotAnEntry (cond k-large found.NotAnEntry (found.Entry (record { leaf = n; outcome = k }))))
-fitting_text l o n k true k-large e f d g = tt
+fitting_text : (l o : List ℕ) (n k : ℕ) (n_large k_large : Bool) → ltb 255 n ≡ n_large → ltb 255 k ≡ k_large → Decimal n l → Decimal k o
+    → TextOf (l ++ (32 ∷ o)) (cond n_large found.NotAnEntry (cond k_large found.NotAnEntry (found.Entry (record { leaf = n; outcome = k }))))
+fitting_text l o n k true k_large e f d g = tt
 fitting_text l o n k false true e f d g = tt
 fitting_text l o n k false false e f d g = record {
   leaf_text = l;
@@ -141,7 +141,7 @@ two_text l o Wrong y e f = tt
 -- an entry's text, a blank and a number
 timed_text : (line m : List ℕ) (f : Found) (z : Number) → TextOf line f → digits Unwritten m ≡ z → TextOf (line ++ (32 ∷ m)) (timed_from f z)
 timed_text line m (found.Entry e) (Is n) x q =
-    let (minute, minute-small) = number_only m n q in
+    let (minute, minute_small) = number_only m n q in
     record {
       leaf_text = x.leaf_text;
       outcome_text = x.outcome_text;
@@ -151,7 +151,7 @@ timed_text line m (found.Entry e) (Is n) x q =
       outcome_decimal = x.outcome_decimal;
       outcome_fits = x.outcome_fits;
       minute_decimal = minute;
-      minute_fits = minute-small;
+      minute_fits = minute_small;
       parted = rw x.parted (append_assoc x.leaf_text (32 ∷ x.outcome_text) (32 ∷ m));
     }
 timed_text line m (found.Entry e) Unwritten x q = tt

@@ -5,7 +5,7 @@ ghost use Rattle.std.specs.Prelude.{◌≡◌, suc, ◌*◌, ◌≤◌, ◌<◌,
 ghost use Rattle.nodes.specs.Nodes.{count, form, left};
 ghost use Rattle.plan.specs.PlanFile.{Runnable};
 ghost use Rattle.plan.specs.Tree.{process_at};
-ghost use Rattle.outcomes.specs.Rows.{rows as outcomeRows};
+ghost use Rattle.outcomes.specs.Rows.{rows as outcome_rows};
 ghost use Rattle.summary.specs.Exact.{Exact};
 ghost use Rattle.sets.specs.PlanSets.{leaf_set};
 ghost use Rattle.sets.specs.Places.{place, most_places};
@@ -57,7 +57,7 @@ fn summary_of(
     places: &[u8; 63],
     n: usize,
 ) -> Summary
-    requires { Runnable types.now nodes.now × (n < count nodes.now) × (3 ≤ form nodes.now n) × Holds types.now nodes.now n work.now × Placed nodes.now n places.now × (rows.now ≡ outcomeRows) }
+    requires { Runnable types.now nodes.now × (n < count nodes.now) × (3 ≤ form nodes.now n) × Holds types.now nodes.now n work.now × Placed nodes.now n places.now × (rows.now ≡ outcome_rows) }
     ensures { Exact (leaf_set nodes.now) result (process_at types.now nodes.now n) }
 {
     let x = nodes::node_at(nodes, n);
@@ -79,7 +79,7 @@ fn step(
     i: usize,
     k: u8,
 ) -> u8
-    requires { Runnable types.now nodes.now × (i < count nodes.now) × (k ≡ place nodes.now i) × (summary_size * most_places ≤ length work.old) × Holds types.now nodes.now i work.old × Placed nodes.now i places.now × (rows.now ≡ outcomeRows) }
+    requires { Runnable types.now nodes.now × (i < count nodes.now) × (k ≡ place nodes.now i) × (summary_size * most_places ≤ length work.old) × Holds types.now nodes.now i work.old × Placed nodes.now i places.now × (rows.now ≡ outcome_rows) }
     ensures { Stepped types.now nodes.now work.old i work.new result }
 {
     if nodes[3 * i] < 3 {
@@ -92,7 +92,7 @@ fn step(
 
 // Puts the summary of every composite at its place in the work area, and gives that of the whole process.
 pub fn fill(rows: &[u64; 75], types: &[u8], nodes: &[u8], work: &mut [u8]) -> Summary
-    requires { Runnable types.now nodes.now × (summary_size * most_places ≤ length work.old) × (rows.now ≡ outcomeRows) }
+    requires { Runnable types.now nodes.now × (summary_size * most_places ≤ length work.old) × (rows.now ≡ outcome_rows) }
     ensures { Filled types.now nodes.now work.old work.new result }
 {
     let n = nodes.len() / 3;

@@ -14,7 +14,7 @@ use Rattle.nodes.proofs.Under.{first, all_under_last}
 use Rattle.plan.proofs.Tree.{parts_smaller}
 use Rattle.plan.specs.PlanFile.{RunnableWithin, Runnable}
 
-module _ {actionLimit : ℕ} (low : actionLimit ≤ 63) (types b : List ℕ) (r : RunnableWithin actionLimit types b) (i : ℕ) (c : i < count b) where
+module _ {action_limit : ℕ} (low : action_limit ≤ 63) (types b : List ℕ) (r : RunnableWithin action_limit types b) (i : ℕ) (c : i < count b) where
   sides_small : (left b i < 63) × (right b i < 63)
   sides_small = go (decide (eqb (form b i) 0)) (decide (ltb (form b i) 3))
     where

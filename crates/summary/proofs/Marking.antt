@@ -130,7 +130,7 @@ module _ (table : List ℕ) (form lefts rights : ℕ) where
 
   -- a left code that has a part in a code is among those marked for it
   pub marks_among : (a b : Summary) (m : List ℕ) → Live a lefts → Live b rights → Marks table form lefts rights 15 m → (code : ℕ) → code < 15 → Among (cell_in3 table form) code a b (get_or m (suc code) 0)
-  marks_among a b m live-a live-b p code small left right x y e i j = elim (below_or_above left 15) [
-    | inl l ↦ p left l (live-a left x i) right code (live-b right y j) (omega (arith, cell_digit (row_in table form left) right code (ap (λ cells. cells right) (cells_of_row table form left) ∙ e) small))
+  marks_among a b m live_a live_b p code small left right x y e i j = elim (below_or_above left 15) [
+    | inl l ↦ p left l (live_a left x i) right code (live_b right y j) (omega (arith, cell_digit (row_in table form left) right code (ap (λ cells. cells right) (cells_of_row table form left) ∙ e) small))
     | inr l ↦ absurd (beyond a left l x i)
   ]

@@ -118,8 +118,8 @@ nested_told = told_consistent q1 refl refl then told_consistent q2 refl refl the
 lines_told : (p : TriedPlan) → Told p → verdict_of p.file work_size record_size ≡ p.verdict → (work work' old new : List ℕ) (v : Judgement)
     → Judged p.file work work' old new v → work_size ≤ length work → record_size ≤ length old → verdict_lines v (take record_size new) ≡ p.lines
 lines_told p t e work work' old new v j large wide =
-    let as-small = found_answer p.file (length work) (length old) large wide ∙ sym (found_answer p.file work_size record_size (omega arith) (omega arith)) in
-    t v old new (j.answer ∙ as-small ∙ e) j.record_after
+    let as_small = found_answer p.file (length work) (length old) large wide ∙ sym (found_answer p.file work_size record_size (omega arith) (omega arith)) in
+    t v old new (j.answer ∙ as_small ∙ e) j.record_after
 
 -- and so it is in the areas of the verdict program
 text_told : (p : TriedPlan) → Told p → verdict_of p.file work_size record_size ≡ p.verdict → (t : Text) → Tells p.file t → t ≡ text_of p.lines

@@ -8,12 +8,12 @@ use Rattle.judge.proofs.verdict.Goals as goal
 pub returns-then-work-lt-WORK : goal.returns-then-work-lt-WORK
 returns-then-work-lt-WORK c =
     let a = c.args in
-    record { answer = sym (short_work a.file.now (length a.work.now) (length a.«record».now) (omega arith)); work_after_lem = refl; record_after = refl }
+    record { answer = sym (short_work a.file.now (length a.work.now) (length a.«record».now) (omega arith)); area_after = refl; record_after = refl }
 
 pub returns-then-record-lt-RECORD : goal.returns-then-record-lt-RECORD
 returns-then-record-lt-RECORD c =
     let a = c.args in
-    record { answer = sym (short_record a.file.now (length a.work.now) (length a.«record».now) (omega arith) (omega arith)); work_after_lem = refl; record_after = refl }
+    record { answer = sym (short_record a.file.now (length a.work.now) (length a.«record».now) (omega arith) (omega arith)); area_after = refl; record_after = refl }
 
 pub judge_file-requires : goal.judge_file-requires
 judge_file-requires c =
@@ -24,7 +24,7 @@ returns-in-Refused c =
     let a = c.args in
     record {
       answer = sym (refused_file a.file.now (length a.work.now) (length a.«record».now) (omega arith) (omega arith) _ (sym c.in-Refused.ensures));
-      work_after_lem = refl;
+      area_after = refl;
       record_after = refl;
     }
 
