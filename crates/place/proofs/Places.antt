@@ -245,12 +245,12 @@ module _ (f part zeroed work work' new : List ℕ) (v : Judgement) (enough : wor
 
     pub filled : (n : ℕ) → n ≡ length (shown_entries (take record_size (take (length back - 4) (drop 4 back)))) → PlaceAfter f part (written back 0 (heading_of v n))
     filled n e =
-        let (shown_is, New-is) = shown_first f lent new first v j.record_after in
+        let (shown_is, new_is) = shown_first f lent new first v j.record_after in
         let shown = record_shown v new in
         let count : n ≡ length (shown_entries shown) = e ∙ ap (λ (b : List ℕ). length (shown_entries (take record_size b))) seen_is ∙ ap (λ (b : List ℕ). length (shown_entries b)) (sym shown_is) in
         let h = heading_long v n in
         let l : length back ≡ 4 + length new = ap length back_is ∙ length-append (take 4 part) new ∙ ap (λ (k : ℕ). k + length new) front_long in
-        let tail : new ≡ shown ++ drop place_size part = New-is ∙ ap₂ (λ (x y : List ℕ). x ++ y) (sym shown_is) rest in
+        let tail : new ≡ shown ++ drop place_size part = new_is ∙ ap₂ (λ (x y : List ℕ). x ++ y) (sym shown_is) rest in
         let whole : written back 0 (heading_of v n) ≡ heading_of v n ++ new = written_first back (heading_of v n) (omega arith) ∙ ap (λ (k : ℕ). heading_of v n ++ drop k back) h ∙ ap (λ (b : List ℕ). heading_of v n ++ b) back_rest in
         record {
           bytes = place_of v shown;

@@ -45,7 +45,7 @@ pub fails : {A : Type 0} {t : Bool} → (t ≡ true) ↔ A → (A → ⊥) → t
 fails {A} {t} say bad = elim (decide t) [ inl e ↦ absurd (bad (say.0 e)) | inr e ↦ e ]
 
 -- one test with one number
-module _ (A : Type 0) (k : ℕ) (Some-number : 0 < k) (t : Bool) (say : (t ≡ true) ↔ A) where
+module _ (A : Type 0) (k : ℕ) (some_number : 0 < k) (t : Bool) (say : (t ≡ true) ↔ A) where
   passes : (t : Bool) → cond t 0 k ≡ 0 → t ≡ true
   passes true e = refl
   passes false e = absurd (omega arith)

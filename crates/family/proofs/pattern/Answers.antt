@@ -1,12 +1,7 @@
 -- `family::pattern` meets its contract: each pattern is right.
-use mathlib.Core.Path.{◌≡◌}
-use Prim.Native.Nat.{ℕ, ◌≤◌}
 use native.Mathlib.Omega.{arith}
 use Rattle.family.proofs.Patterns.{patterned, no_pattern}
 use Rattle.family.proofs.pattern.Goals as goal
-
-six : (a : ℕ) → ¬ (a ≡ 0) → ¬ (a ≡ 1) → ¬ (a ≡ 2) → ¬ (a ≡ 3) → ¬ (a ≡ 4) → ¬ (a ≡ 5) → 6 ≤ a
-six a d0 d1 d2 d3 d4 d5 = omega arith
 
 pub returns-in-0 : goal.returns-in-0
 returns-in-0 c = rw c.in-0.is (patterned _ 0 tt)

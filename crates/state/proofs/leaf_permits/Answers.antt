@@ -12,8 +12,8 @@ returns-then-x-lt3 c =
 pub returns-then-n-nodes : goal.returns-then-n-nodes
 unfolding leaf_permits
 returns-then-n-nodes c =
-    let form-large = rw c.node_at-x.ensures at c.if-x-lt3.false in
-    simp (le-ltb _ _ form-large, lt-ltb _ _ c.if-n-nodes.true)
+    let form_large = rw c.node_at-x.ensures at c.if-x-lt3.false in
+    simp (le-ltb _ _ form_large, lt-ltb _ _ c.if-n-nodes.true)
 
 pub returns : goal.returns
 unfolding leaf_permits

@@ -19,10 +19,10 @@ returns-then-not-kept c = rw (sym c.kept.ensures ∙ c.if-not-kept.true) c.refus
 together : (actions : ℕ) (w nodes : List ℕ) (j : Job) (e : Entry) (m f : ℕ) (x : Job) (t : Taken)
     → kept actions w nodes j.entries j.taken j.minute ≡ true → f ≡ entry_fault w nodes e.leaf j.minute m → x ≡ struck_out j → t ≡ take_of x e
     → at_minute j f m t.job t.answer ≡ take_timed_with actions w nodes j e m
-together actions w nodes j e m f x t k same_fault same-job same_answer =
+together actions w nodes j e m f x t k same_fault same_job same_answer =
     let u = take_of (struck_out j) e in
     let a : Taken = at_minute j (entry_fault w nodes e.leaf j.minute m) m u.job u.answer in
-    ap (λ (v : Taken). at_minute j f m v.job v.answer) (same_answer ∙ ap (λ (y : Job). take_of y e) same-job)
+    ap (λ (v : Taken). at_minute j f m v.job v.answer) (same_answer ∙ ap (λ (y : Job). take_of y e) same_job)
     ∙ ap (λ (g : ℕ). at_minute j g m u.job u.answer) same_fault
     ∙ sym (ap (λ (b : Bool). cond b a (refusal 11 j)) k)
 
