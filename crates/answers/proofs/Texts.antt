@@ -2,7 +2,9 @@
 use mathlib.Core.Path.{◌≡◌, refl}
 use mathlib.Core.Bool.{Bool, true, false}
 use mathlib.Core.List.{[], ◌∷◌}
-use Prim.Native.Nat.{ℕ, ◌≤◌, ◌<◌}
+use Prim.Native.Nat.{ℕ, ◌/◌, ◌^◌, ◌≤◌, ◌<◌}
+use native.Mathlib.Nat.{div-eq_of_lt, lt_of_lt_of_le}
+use lib.Pow.{pow_mono}
 use native.Mathlib.Omega.{arith}
 use lib.ListN.{length, length-append}
 use Rattle.text.specs.Decimal.{decimal}
@@ -17,6 +19,12 @@ use Rattle.job.specs.declared.End.{End}
 use Rattle.job.specs.declared.End.TheVariants.{Open, MayEnd}
 use Rattle.job.specs.declared.Told.{Told}
 use Rattle.answers.specs.Lines.{comes_next, leaf_text, end_line, told_lines}
+
+-- a number of 64 bits has no bit past them
+pub none_past : (next leaf : ℕ) → next < 2 ^ 64 → 64 ≤ leaf → comes_next next leaf ≡ false
+none_past next leaf h l =
+    let none : next / 2 ^ leaf ≡ 0 = div-eq_of_lt (lt_of_lt_of_le h (pow_mono {i = 64} l)) in
+    rw none
 
 pub leaf_comes : (t : Text) (next leaf : ℕ) → comes_next next leaf ≡ true → appended (pushed t 32) (decimal leaf) ≡ appended t (leaf_text next leaf)
 unfolding appended

@@ -1,6 +1,6 @@
 -- The lines of a runner's answer: after the start and after each entry taken `next` and the leaves that may come, ascending, each after a
 -- blank, and then `open`, `may end succeeded` or `may end failed`; after a refusal `refused` and its number.
-use Rattle.std.specs.Prelude.{Bool, cond, List, [], ◌∷◌, ◌++◌, ℕ, ◌/◌, ◌%◌, ◌^◌, eqb}
+use Rattle.std.specs.Prelude.{Bool, cond, List, [], ◌∷◌, ◌++◌, ℕ, ◌/◌, ◌%◌, ◌^◌, eqb, Ok, Err}
 use Rattle.text.specs.Decimal.{decimal}
 use Rattle.text.specs.Lines.{numbered, refused, each}
 use Rattle.text.specs.Text.{ascii}
@@ -8,8 +8,8 @@ use Rattle.job.specs.declared.Status.TheVariants.{Succeeded, Failed}
 use Rattle.job.specs.declared.End.{End}
 use Rattle.job.specs.declared.End.TheVariants.{Open, MayEnd}
 use Rattle.job.specs.declared.Told.{Told}
-use Rattle.job.specs.declared.Answer.{Answer}
-use Rattle.job.specs.declared.Answer.TheVariants as answer
+use Rattle.job.specs.Job.{Answer}
+use Rattle.job.specs.Numbers.{number}
 
 -- Leaf n may come next where bit n is set in what is told.
 abbrev pub comes_next : ℕ → ℕ → Bool
@@ -30,5 +30,5 @@ unfoldable pub told_lines : Told → List ℕ
 told_lines t = ascii "next" ++ (each (leaf_text t.next) 0 64 ++ (10 ∷ end_line t.end))
 
 abbrev pub answer_lines : Answer → List ℕ
-answer_lines (answer.Told t) = told_lines t
-answer_lines (answer.Refused n) = numbered refused n
+answer_lines (Ok t) = told_lines t
+answer_lines (Err r) = numbered refused (number r)

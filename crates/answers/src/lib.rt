@@ -10,63 +10,62 @@ use job::{Answer, End, Status, Told};
 use text::Text;
 
 // Whether the leaf is among those that may come next, whose bits are set in `next`.
+#[tactic(auto, using(crate::proofs::Texts::none_past))]
 fn comes_next(next: u64, leaf: u64) -> bool
     ensures { result ≡ comes_next next leaf }
 {
-    if leaf >= 64 {
-        return false;
-    }
-    (next >> leaf) % 2 == 1
+    leaf < 64 && (next >> leaf) % 2 == 1
 }
 
 // A blank and the leaf, where it may come.
-fn put_leaf(t: Text, next: u64, leaf: u64) -> Text
-    ensures { result ≡ appended t (leaf_text next leaf) }
+#[tactic(auto, using(crate::proofs::Texts::leaf_comes, crate::proofs::Texts::leaf_stays))]
+fn put_leaf(t: &mut Text, next: u64, leaf: u64)
+    ensures { t.new ≡ appended t.old (leaf_text next leaf) }
 {
     if comes_next(next, leaf) {
-        return text::put_decimal(text::push(t, 32), leaf);
+        t.push(b' ');
+        t.put_decimal(leaf);
     }
-    t
 }
 
-fn put_leaves(t: Text, next: u64) -> Text
-    ensures { result ≡ appended t (each (leaf_text next) 0 64) }
+#[tactic(auto, using(text::proofs::Ends::each_step, text::proofs::Ends::each_end))]
+fn put_leaves(t: &mut Text, next: u64)
+    ensures { t.new ≡ appended t.old (each (leaf_text next) 0 64) }
 {
-    let mut grown = t;
-    let mut leaf = 0;
-    while leaf < 64 {
-        grown = put_leaf(grown, next, leaf);
-        leaf += 1;
+    for leaf in 0..64 {
+        put_leaf(t, next, leaf);
     }
-    grown
 }
 
-fn put_end(t: Text, end: End) -> Text
-    ensures { result ≡ appended t (end_line end) }
+fn put_end(t: &mut Text, end: End)
+    ensures { t.new ≡ appended t.old (end_line end) }
 {
     match end {
-        End::Open => text::put(t, b"open\n"),
-        End::MayEnd(status) => match status {
-            Status::Succeeded => text::put(t, b"may end succeeded\n"),
-            Status::Failed => text::put(t, b"may end failed\n"),
-        },
+        End::Open => t.put(b"open\n"),
+        End::MayEnd(Status::Succeeded) => t.put(b"may end succeeded\n"),
+        End::MayEnd(Status::Failed) => t.put(b"may end failed\n"),
     }
 }
 
-fn put_told(t: Text, told: Told) -> Text
-    ensures { result ≡ appended t (told_lines told) }
+#[tactic(auto, using(crate::proofs::Texts::told_put))]
+fn put_told(t: &mut Text, told: Told)
+    ensures { t.new ≡ appended t.old (told_lines told) }
 {
-    let end = told.end;
-    let leaves = put_leaves(text::put(t, b"next"), told.next);
-    put_end(text::push(leaves, 10), end)
+    t.put(b"next");
+    put_leaves(t, told.next);
+    t.push(b'\n');
+    put_end(t, told.end);
 }
 
 // The answer's lines.
+#[tactic(auto, using(text::proofs::Texts::appended_empty, text::proofs::Ends::numbered_short, crate::proofs::Texts::told_few))]
 pub fn lines(a: Answer) -> Text
     ensures { result ≡ text_of (answer_lines a) }
 {
+    let mut t = Text::new();
     match a {
-        Answer::Told(told) => put_told(text::empty(), told),
-        Answer::Refused(number) => text::put_numbered(text::empty(), b"refused", number as u64),
+        Ok(told) => put_told(&mut t, told),
+        Err(r) => t.put_numbered(b"refused", u64::from(r.number())),
     }
+    t
 }

@@ -3,40 +3,22 @@ use mathlib.Core.Path.{◌≡◌, refl, sym, ap, ◌∙◌}
 use mathlib.Core.Bool.{Bool, true, false}
 use mathlib.Core.Logic.{inl, inr}
 use mathlib.Core.List.{List}
-use Prim.Native.Nat.{ℕ, zero, suc, ◌+◌, ◌*◌, ◌/◌, ◌%◌, ◌^◌, ◌<◌, ◌≤◌}
-use native.Mathlib.Nat.{mod-eq_of_lt}
+use Prim.Native.Nat.{ℕ, zero, suc, ◌+◌, ◌-◌, ◌*◌, ◌/◌, ◌^◌, ◌<◌, ◌≤◌}
 use native.Mathlib.Omega.{arith}
 use borrow.Author.Count.{below_more}
 use borrow.Author.Tests.{le-leb, lt-leb}
-use lib.Pow.{shr-shr, shr_lt}
-use lib.ListN.{length, get_or, set, length-set}
-use lib.Seq.{get_or-set_same, get_or-set_other, ext_get_or}
-use Rattle.family.proofs.Numbers.{below_or_above}
+use lib.ListN.{length, get_or}
+use lib.Seq.{ext_get_or}
+use borrow.Author.Rules.{rules}
+use borrow.Rule.Slice.PartMut.{put_mid}
+use Rattle.std.specs.Int.{w64, to_le_bytes}
+use Rattle.std.proofs.lemmas.Nat.{from_le_bytes-to_le_bytes_8}
+use Rattle.std.proofs.lemmas.Slice.{overwrites}
+use Rattle.std.proofs.lemmas.List.{places}
+use Rattle.std.proofs.lemmas.Bool.{cases_lt}
 use Rattle.summary.specs.declared.Summary.{Summary}
 use Rattle.summary.specs.Summary.{family_of}
 use Rattle.area.specs.Area.{summary_size, code_at, word_at, words_at, summary_at, fits, loaded, Kept, WordWritten, Written, Stored, StoreAnswer, LoadAfterStore}
-
--- the eight bytes of a word make it
-level : (q next b rest : ℕ) → b ≡ q % 256 → next ≡ q / 256 → rest ≡ next → b + 256 * rest ≡ q
-level q next b rest h n r = omega arith
-
-module _ (bytes : List ℕ) (at w : ℕ) (small : w < 2 ^ 64) (digit : (j : ℕ) → j < 8 → get_or bytes (at + j) 0 ≡ w / 2 ^ (j * 8) % 256) where
-  next : (j : ℕ) → w / 2 ^ (j * 8 + 8) ≡ w / 2 ^ (j * 8) / 256
-  next j = sym (shr-shr w (j * 8) 8)
-
-  pub word_back : word_at bytes at ≡ w
-  word_back =
-      let e : at + 0 ≡ at = omega arith in
-      let d : w / 1 ≡ w = omega arith in
-      let first : get_or bytes at 0 ≡ w % 256 = sym (ap (λ (n : ℕ). get_or bytes n 0) e) ∙ digit 0 (omega arith) ∙ ap (λ (n : ℕ). n % 256) d in
-      let last : get_or bytes (at + 7) 0 ≡ w / 2 ^ 56 = digit 7 (omega arith) ∙ mod-eq_of_lt (shr_lt 8 56 small) in
-      level w _ _ _ first refl
-      (level (w / 2 ^ 8) _ _ _ (digit 1 (omega arith)) (next 1)
-      (level (w / 2 ^ 16) _ _ _ (digit 2 (omega arith)) (next 2)
-      (level (w / 2 ^ 24) _ _ _ (digit 3 (omega arith)) (next 3)
-      (level (w / 2 ^ 32) _ _ _ (digit 4 (omega arith)) (next 4)
-      (level (w / 2 ^ 40) _ _ _ (digit 5 (omega arith)) (next 5)
-      (level (w / 2 ^ 48) _ _ _ (digit 6 (omega arith)) (next 6) last))))))
 
 -- the words of a list of words
 pub words_count : (n : ℕ) (bytes : List ℕ) (at : ℕ) → length (words_at n bytes at) ≡ n
@@ -83,36 +65,33 @@ module _ (old new : List ℕ) (at : ℕ) (same : Same old new at summary_size) w
       let first = rw e at (part_same 0 (omega arith)) in
       λ t. record { s1 = first t; s2 = part_same 128 (omega arith) t; s3 = part_same 256 (omega arith) t; s4 = part_same 384 (omega arith) t; s6 = part_same 512 (omega arith) t; s7 = part_same 640 (omega arith) t; s9 = part_same 768 (omega arith) t; s10 = part_same 896 (omega arith) t; s11 = part_same 1024 (omega arith) t; s13 = part_same 1152 (omega arith) t; s14 = part_same 1280 (omega arith) t }
 
--- byte k of a word
-abbrev byte_of : ℕ → ℕ → ℕ
-byte_of w k = w / 2 ^ (k * 8) % 256
+-- eight bytes put in at a place of the area
+module _ (old bytes : List ℕ) (at : ℕ) (room : at + 8 ≤ length old) (eight : length bytes ≡ 8) where
+  abbrev put : List ℕ
+  put = put_mid at (at + 8 - at) old bytes
 
--- the first k bytes of the word w are written at `at`
-pub record Putting (old : List ℕ) (at w k : ℕ) (new : List ℕ) : Type 0 where
-  pub long : length new ≡ length old
-  pub bytes : (j : ℕ) → j < k → get_or new (at + j) 0 ≡ byte_of w j
-  pub kept : Kept old at 8 new
+  put_long : length put ≡ length old
+  put_long = search (rules, overwrites)
 
-module _ (old : List ℕ) (at w : ℕ) where
-  pub putting_none : Putting old at w 0 old
-  putting_none = record { long = refl; bytes = λ j l. absurd (omega arith); kept = λ k out. refl }
+  put_byte : (k : ℕ) → k < 8 → get_or put (at + k) 0 ≡ get_or bytes k 0
+  put_byte k l = search (rules, places)
 
-  pub putting_more : (k : ℕ) (new : List ℕ) → k < 8 → at + 8 ≤ length old → Putting old at w k new → Putting old at w (k + 1) (set new (at + k) (byte_of w k))
-  putting_more k new l room p = record {
-    long = length-set new (at + k) (byte_of w k) ∙ p.long;
-    bytes = below_more (λ j. get_or (set new (at + k) (byte_of w k)) (at + j) 0 ≡ byte_of w j) k (λ j h. get_or-set_other new (at + k) (at + j) (byte_of w k) 0 (λ e. omega arith) ∙ p.bytes j h)
-        (get_or-set_same new (at + k) (byte_of w k) 0 (omega (arith, p.long)));
-    kept = λ j out. get_or-set_other new (at + k) j (byte_of w k) 0 (elim out [ inl a ↦ λ e. omega arith | inr a ↦ λ e. omega arith ]) ∙ p.kept j out;
-  }
+  put_kept : Kept old at 8 put
+  put_kept k (inl l) = search (rules, places)
+  put_kept k (inr l) = search (rules, places)
 
-  pub putting_first : at + 8 ≤ length old → Putting old at w 1 (set old at (w % 256))
-  putting_first room =
-      let e : at + 0 ≡ at = omega arith in
-      let d : w / 1 ≡ w = omega arith in
-      rw (e, d) at (putting_more 0 old (omega arith) room putting_none)
-
-  pub word_written : (new : List ℕ) → w < 2 ^ 64 → Putting old at w 8 new → WordWritten old at w new
-  word_written new small p = record { long = p.long; here = word_back new at w small p.bytes; kept = p.kept }
+-- those of a word
+pub word_written : (old : List ℕ) (at w : ℕ) → at + 8 ≤ length old → w < 2 ^ 64 → WordWritten old at w (put_mid at (at + 8 - at) old (to_le_bytes w64 w))
+word_written old at w room small =
+    let bytes : List ℕ = to_le_bytes w64 w in
+    let byte = put_byte old bytes at room refl in
+    let e : at + 0 ≡ at = omega arith in
+    record {
+      long = put_long old bytes at room refl;
+      here = omega
+          (arith, from_le_bytes-to_le_bytes_8 w small, rw e at (byte 0 (omega arith)), byte 1 (omega arith), byte 2 (omega arith), byte 3 (omega arith), byte 4 (omega arith), byte 5 (omega arith), byte 6 (omega arith), byte 7 (omega arith));
+      kept = put_kept old bytes at room refl;
+    }
 
 -- the first i words of the family f are written at `at`
 pub record Writing (old : List ℕ) (at : ℕ) (f : List ℕ) (i : ℕ) (new : List ℕ) : Type 0 where
@@ -177,7 +156,7 @@ module _ (old : List ℕ) (i : ℕ) (s : Summary) (new : List ℕ) where
   others : (answer : Bool) → StoreAnswer old i s new answer → (j : ℕ) → ¬ (j ≡ i) → loaded new j ≡ loaded old j
   others true a j d =
       let w = a.stored refl in
-      let outside = summary_same old new (summary_size * j) (λ k l h. w.kept k (elim (below_or_above k (summary_size * i)) [ inl b ↦ inl b | inr b ↦ inr (omega arith) ])) in
+      let outside = summary_same old new (summary_size * j) (λ k l h. w.kept k (elim (cases_lt k (summary_size * i)) [ inl b ↦ inl b | inr b ↦ inr (omega arith) ])) in
       cc w.long
   others false a j d = ap (λ bytes. loaded bytes j) (a.unchanged refl)
 

@@ -2,7 +2,7 @@
 -- that have sets.
 use Rattle.std.specs.Prelude.{◌≡◌, Bool, true, false, cond, ◌⊎◌, List, [], ◌∷◌, ℕ, zero, suc, ◌+◌, ◌*◌, ◌<◌, ◌≤◌, leb, get_or, length}
 use Rattle.summary.specs.declared.Summary.{Summary}
-use Rattle.summary.specs.Summary.{no_sets}
+use Rattle.summary.specs.Summary.{no_summary}
 
 -- "Numbers are little-endian": the word of the eight bytes at `at`.
 abbrev pub word_at : List ℕ → ℕ → ℕ
@@ -41,22 +41,6 @@ summary_at bytes at = record {
 -- The bytes of the summary at place i lie in the area.
 abbrev pub fits : List ℕ → ℕ → Bool
 fits bytes i = leb (summary_size * i + summary_size) (length bytes)
-
--- The one without sets.
-abbrev pub no_summary : Summary
-no_summary = record {
-  s1 = no_sets;
-  s2 = no_sets;
-  s3 = no_sets;
-  s4 = no_sets;
-  s6 = no_sets;
-  s7 = no_sets;
-  s9 = no_sets;
-  s10 = no_sets;
-  s11 = no_sets;
-  s13 = no_sets;
-  s14 = no_sets;
-}
 
 -- The summary at place i; the one without sets where its bytes do not lie in the area.
 abbrev pub loaded : List ℕ → ℕ → Summary

@@ -1,2 +1,2 @@
 pub mod Bounded
-pub mod Area
+pub mod Ranges

@@ -13,17 +13,11 @@ pub struct Part {
     pub len: usize,
 }
 
-// What stands at a cursor: a whole heading, or the input ends before it does.
-#[derive(Drop)]
-pub enum Heading {
-    Whole { kind: usize, len: usize },
-    Cut,
-}
-
-pub fn wide(x: u8) -> usize
-    ensures { result ≡ x }
-{
-    x as usize
+// What a block says before its body: the body's kind, and how many bytes it has.
+#[derive(Clone, Copy)]
+pub struct Heading {
+    pub kind: usize,
+    pub len: usize,
 }
 
 // The little-endian number of the two bytes at `at`.
@@ -31,41 +25,34 @@ pub fn number_at(s: &[u8], at: usize) -> usize
     requires { at + 2 ≤ length s.now }
     ensures { (result ≡ le16 s.now at) × (result < 65536) }
 {
-    let low = s[at] as usize;
-    let high = s[at + 1] as usize;
-    low + 256 * high
+    usize::from(u16::from_le_bytes([s[at], s[at + 1]]))
 }
 
 // Whether `n` bytes from `at` on lie within `len` bytes.
-fn within(len: usize, at: usize, n: usize) -> bool
+pub fn within(len: usize, at: usize, n: usize) -> bool
     ensures { result ≡ leb (at + n) len }
 {
-    if len < at {
-        return false;
-    }
-    n <= len - at
+    at <= len && n <= len - at
 }
 
-// The heading at `at`.
-pub fn heading_at(s: &[u8], at: usize) -> Heading
+// The heading at `at`; none where the input ends before it does.
+pub fn heading_at(s: &[u8], at: usize) -> Option<Heading>
     ensures { result ≡ heading_at s.now at }
 {
     if !within(s.len(), at, 4) {
-        return Heading::Cut;
+        return None;
     }
-    let kind = number_at(s, at + 2);
-    let len = number_at(s, at);
-    Heading::Whole { kind, len }
+    Some(Heading {
+        kind: number_at(s, at + 2),
+        len: number_at(s, at),
+    })
 }
 
 // Whether the body of `len` bytes of the block at `at` is there in full.
 pub fn body_fits(s: &[u8], at: usize, len: usize) -> bool
     ensures { result ≡ body_fits s.now at len }
 {
-    if !within(s.len(), at, 4) {
-        return false;
-    }
-    within(s.len(), at + 4, len)
+    within(s.len(), at, 4) && within(s.len(), at + 4, len)
 }
 
 // Writes `src` into `dst` from `at` on, and answers true. Where it does not fit, nothing is written, and the answer is false.
@@ -76,11 +63,7 @@ pub fn copy(dst: &mut [u8], at: usize, src: &[u8]) -> bool
     if !within(dst.len(), at, src.len()) {
         return false;
     }
-    let mut i = 0;
-    while i < src.len() {
-        dst[at + i] = src[i];
-        i += 1;
-    }
+    dst[at..at + src.len()].copy_from_slice(src);
     true
 }
 
@@ -92,10 +75,6 @@ pub fn clear(dst: &mut [u8], at: usize, n: usize) -> bool
     if !within(dst.len(), at, n) {
         return false;
     }
-    let mut i = 0;
-    while i < n {
-        dst[at + i] = 0;
-        i += 1;
-    }
+    dst[at..at + n].fill(0);
     true
 }

@@ -1,6 +1,6 @@
 -- Document 01, kind 4: the rule, "in postfix order. A byte below the action count is that action; hexadecimal 80 is not, 81 and, 82 or.
 -- Exactly one value remains."
-use Rattle.std.specs.Prelude.{Bool, false, cond, List, [], ◌∷◌, ◌++◌, ℕ, ◌+◌, ◌-◌, ◌<◌, ltb, leb, eqb}
+use Rattle.std.specs.Prelude.{Bool, false, cond, Option, Some, None, List, [], ◌∷◌, ◌++◌, ℕ, ◌+◌, ◌-◌, ◌<◌, ltb, leb, eqb}
 
 -- what the body may hold: the bytes of a part in postfix order, its operands before it
 pub data Rule (actions : ℕ) : List ℕ → Type 0 where
@@ -13,6 +13,10 @@ pub data Rule (actions : ℕ) : List ℕ → Type 0 where
 abbrev pub operands : ℕ → ℕ → ℕ
 operands actions t =
     cond (ltb t actions) 0 (cond (eqb t 0x80) 1 (cond (eqb t 0x81) 2 (cond (eqb t 0x82) 2 3)))
+
+-- the same; none where it may not stand in a rule
+abbrev pub taken : ℕ → ℕ → Option ℕ
+taken actions t = cond (leb (operands actions t) 2) (Some (operands actions t)) None
 
 -- the test of it, from d values on
 unfoldable pub rule_from : ℕ → ℕ → List ℕ → Bool

@@ -2,25 +2,16 @@
 ghost use Rattle.std.specs.Prelude.{◌≡◌};
 ghost use Rattle.bodies.specs.Types.{is_type, types_ok};
 
+// The types are the file's own bytes, which the model numbers too.
 fn is_type(t: u8) -> bool
     ensures { result ≡ is_type t }
 {
-    if 1 <= t {
-        return t <= 3;
-    }
-    false
+    matches!(t, 1..=3)
 }
 
 // Whether each byte is a type.
 pub fn types_ok(b: &[u8]) -> bool
     ensures { result ≡ types_ok b.now }
 {
-    let mut i = 0;
-    while i < b.len() {
-        if !is_type(b[i]) {
-            return false;
-        }
-        i += 1;
-    }
-    true
+    b.iter().all(|&t| is_type(t))
 }

@@ -1,14 +1,14 @@
 -- The chart's lines, put into a text cell by cell; and all of them have room in one, which is computed.
-use mathlib.Core.Path.{◌≡◌, refl}
+use mathlib.Core.Path.{◌≡◌, refl, sym}
 use mathlib.Core.List.{List, ◌++◌}
 use Prim.Native.Nat.{ℕ, ◌/◌, ◌%◌, ◌≤◌, ◌<◌}
 use lib.ListN.{length}
 use borrow.Author.Tests.{lt-ltb, le-ltb}
 use Rattle.text.specs.Decimal.{decimal, digits}
 use Rattle.text.specs.Lines.{each}
-use Rattle.text.specs.Text.{pushed, appended}
+use Rattle.text.specs.Text.{empty, pushed, appended, text_of}
 use Rattle.text.specs.declared.Text.{Text}
-use Rattle.text.proofs.Texts.{appended_both, appended_one}
+use Rattle.text.proofs.Texts.{appended_both, appended_one, appended_empty}
 use Rattle.outcomes.specs.Cells.{cell, lines}
 use Rattle.chart.specs.Lines.{cell_text, table_text, chart_lines}
 
@@ -25,8 +25,7 @@ pub chart_room : length chart_lines ≡ 540
 unfolding chart_lines table_text each cell_text digits cell lines
 chart_room = refl
 
--- five tables, one after the other
-pub five : (t0 t1 t2 t3 t4 t5 : Text) (a b c d e : List ℕ)
-    → t1 ≡ appended t0 a → t2 ≡ appended t1 b → t3 ≡ appended t2 c → t4 ≡ appended t3 d → t5 ≡ appended t4 e
-    → t5 ≡ appended t0 (a ++ (b ++ (c ++ (d ++ e))))
-five t0 t1 t2 t3 t4 t5 a b c d e p q r s u = rw (u, s, r, q, p, appended_both, appended_both, appended_both, appended_both)
+-- five lists, put into the empty text one after the other, where there is room for them
+pub five : (a b c d e : List ℕ) → length (a ++ (b ++ (c ++ (d ++ e)))) ≤ 640
+    → appended (appended (appended (appended (appended empty a) b) c) d) e ≡ text_of (a ++ (b ++ (c ++ (d ++ e))))
+five a b c d e h = rw (sym (appended_empty _ h), appended_both, appended_both, appended_both, appended_both) refl

@@ -9,49 +9,45 @@ ghost use Rattle.chart.specs.Lines.{cell_text, table_text, chart_lines};
 use text::Text;
 
 // The cell at a place of the form's table.
-fn put_cell(t: Text, form: u8, place: u8) -> Text
-    ensures { result ≡ appended t (cell_text form place) }
+#[tactic(auto, using(crate::proofs::Texts::within_row, crate::proofs::Texts::row_ends))]
+fn put_cell(t: &mut Text, form: u8, place: u8)
+    ensures { t.new ≡ appended t.old (cell_text form place) }
 {
     let right = place % 7;
-    let code = outcomes::chart::cell(form, place / 7, right);
-    let told = text::put_decimal(t, code as u64);
-    if right < 6 {
-        return text::push(told, 32);
-    }
-    text::push(told, 10)
+    t.put_decimal(u64::from(outcomes::chart::cell(form, place / 7, right)));
+    t.push(if right < 6 { b' ' } else { b'\n' });
 }
 
-fn put_cells(t: Text, form: u8) -> Text
-    ensures { result ≡ appended t (each (cell_text form) 0 49) }
+#[tactic(auto, using(text::proofs::Ends::each_step, text::proofs::Ends::each_end))]
+fn put_cells(t: &mut Text, form: u8)
+    ensures { t.new ≡ appended t.old (each (cell_text form) 0 49) }
 {
-    let mut grown = t;
-    let mut place = 0;
-    while place < 49 {
-        grown = put_cell(grown, form, place);
-        place += 1;
+    for place in 0..49 {
+        put_cell(t, form, place);
     }
-    grown
 }
 
 // A form's name, and its table.
-fn put_table(t: Text, name: &[u8], form: u8) -> Text
-    ensures { result ≡ appended t (table_text name.now form) }
+#[tactic(auto, using(text::proofs::Texts::appended_both), unfolding(crate::specs::Lines::table_text))]
+fn put_table(t: &mut Text, name: &[u8], form: u8)
+    ensures { t.new ≡ appended t.old (table_text name.now form) }
 {
-    put_cells(text::put_line(t, name), form)
+    t.put_line(name);
+    put_cells(t, form);
 }
 
 fn lines() -> Text
     ensures { result ≡ text_of chart_lines }
 {
-    let t3 = put_table(text::empty(), b"sequence", 3);
-    let t4 = put_table(t3, b"\nparallel", 4);
-    let t5 = put_table(t4, b"\nchoice", 5);
-    let t6 = put_table(t5, b"\ncompensation", 6);
-    put_table(t6, b"\nhandler", 7)
+    let mut t = Text::new();
+    put_table(&mut t, b"sequence", 3);
+    put_table(&mut t, b"\nparallel", 4);
+    put_table(&mut t, b"\nchoice", 5);
+    put_table(&mut t, b"\ncompensation", 6);
+    put_table(&mut t, b"\nhandler", 7);
+    t
 }
 
 fn main(rt: HostRuntime) {
-    if let Err(why) = output::write(&rt, lines()) {
-        output::fail(&rt.stderr(), b"standard output", why);
-    }
+    let _ = output::show(&rt, &rt.stderr(), &lines());
 }

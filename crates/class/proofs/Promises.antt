@@ -1,6 +1,5 @@
 -- The promises on a class, each from the outcome that its contract admits: of one input there is one (`one_outcome`), which the conditions are shown by.
 use mathlib.Core.Path.{◌≡◌, refl, sym, ap, ap₂, subst, ◌∙◌}
-use mathlib.Core.Bool.{Bool, true, false}
 use mathlib.Core.List.{List, [], ◌∷◌, ◌++◌, map, append_assoc}
 use Prim.Native.Nat.{ℕ, suc, ◌+◌, ◌*◌, ◌≤◌, ◌<◌}
 use native.Mathlib.Omega.{arith}
@@ -8,7 +7,6 @@ use lib.ListN.{length, take, drop, length-append, length-drop}
 use lib.Seq.{take_at, drop_at, drop-drop}
 use Rattle.plan.specs.Reading.{read_of}
 use Rattle.plan.specs.declared.Layout.{Layout}
-use Rattle.plan.specs.declared.Reading.TheVariants.{Accepted}
 use Rattle.judge.specs.Verdict.{work_size, record_size, verdict_of}
 use Rattle.judge.specs.Judged.{cleared_work}
 use Rattle.judge.specs.Shown.{shown_entries}
@@ -17,10 +15,12 @@ use Rattle.judge.proofs.Demand3.{found_answer, demand3}
 use Rattle.handed.specs.Files.{Holds, most_files, Class}
 use Rattle.handed.specs.Files as the_files
 use Rattle.place.specs.Place.{place_size, heading_of, zero_work, zero_record, Placed, place_for, Places, none, place, joined}
-use Rattle.class.specs.Outcome.{RefusedBy, no_work, no_class, no_room, Unchanged, AllFilled, Outcome}
+use Rattle.class.specs.Outcome.{Answer, number, number_of, RefusedBy, no_work, no_class, no_room, Unchanged, AllFilled, Outcome}
 use Rattle.class.specs.Promises.{place_in, Promised, ClassPromises}
-use Rattle.class.specs.declared.Answer.{Answer}
-use Rattle.class.specs.declared.Answer.TheVariants.{Filled, Refused}
+use Rattle.std.specs.Prelude.{Ok, Err}
+use mathlib.Core.Option.{some}
+use Rattle.class.specs.declared.Refusal.{Refusal}
+use Rattle.class.specs.declared.Refusal.TheVariants.{WorkArea, Files, AnswerArea}
 use Rattle.handed.proofs.Files.{one_list, handed_holds, headed, held_after}
 use Rattle.place.proofs.Places.{work_long, record_long, heading_long, placed_long, as_alone, bytes_are, one_place, some_place}
 use Rattle.place.proofs.Lengths.{any_length}
@@ -47,84 +47,76 @@ place_at : (before after : List (List ℕ)) (f : List ℕ) (qs : List (List ℕ)
 place_at [] after f qs rest (place {p} {ps} x xs) = at_first f p (joined ps) rest x
 place_at (g ∷ before) after f qs rest (place {p} {ps} x xs) = at_later f g p (joined ps) rest (length before) x (place_at before after f ps rest xs)
 
-abbrev count_of : Answer → ℕ
-count_of (Filled n) = n
-count_of (Refused n) = 0
-
-abbrev number_of : Answer → ℕ
-number_of (Filled n) = 0
-number_of (Refused n) = n
-
-abbrev is_filled : Answer → Bool
-is_filled (Filled n) = true
-is_filled (Refused n) = false
-
 -- which number, why
+refused_by : (a : Answer) (n : ℕ) → number_of a ≡ some n → (r : Refusal) × (a ≡ Err r) × (number r ≡ n)
+refused_by (Ok m) n e = cc
+refused_by (Err r) n e = (r, refl, cc)
+
 module _ (s : List ℕ) (work room : ℕ) where
-  why_ten : (n : ℕ) → n ≡ 10 → RefusedBy s work room n → work < work_size
-  why_ten n e (no_work h) = h
-  why_ten n e (no_class h no_files) = absurd (omega arith)
-  why_ten n e (no_room h fs c r) = absurd (omega arith)
+  why_ten : (r : Refusal) → number r ≡ 10 → RefusedBy s work room r → work < work_size
+  why_ten r e (no_work h) = h
+  why_ten r e (no_class h no_files) = absurd (omega (arith, e))
+  why_ten r e (no_room h fs c l) = absurd (omega (arith, e))
 
-  why_nineteen : (n : ℕ) → n ≡ 19 → RefusedBy s work room n → (work_size ≤ work) × ((files : List (List ℕ)) → Class s files → ⊥)
-  why_nineteen n e (no_work h) = absurd (omega arith)
-  why_nineteen n e (no_class h no_files) = (h, no_files)
-  why_nineteen n e (no_room h fs c r) = absurd (omega arith)
+  why_nineteen : (r : Refusal) → number r ≡ 19 → RefusedBy s work room r → (work_size ≤ work) × ((files : List (List ℕ)) → Class s files → ⊥)
+  why_nineteen r e (no_work h) = absurd (omega (arith, e))
+  why_nineteen r e (no_class h no_files) = (h, no_files)
+  why_nineteen r e (no_room h fs c l) = absurd (omega (arith, e))
 
-  why_twenty : (n : ℕ) → n ≡ 20 → RefusedBy s work room n → (work_size ≤ work) × ((files : List (List ℕ)) × Class s files × (room < place_size * length files))
-  why_twenty n e (no_work h) = absurd (omega arith)
-  why_twenty n e (no_class h no_files) = absurd (omega arith)
-  why_twenty n e (no_room h fs c r) = (h, (fs, c, r))
+  why_twenty : (r : Refusal) → number r ≡ 20 → RefusedBy s work room r → (work_size ≤ work) × ((files : List (List ℕ)) × Class s files × (room < place_size * length files))
+  why_twenty r e (no_work h) = absurd (omega (arith, e))
+  why_twenty r e (no_class h no_files) = absurd (omega (arith, e))
+  why_twenty r e (no_room h fs c l) = (h, (fs, c, l))
 
 module _ (s work work' old new : List ℕ) (a : Answer) (x : Outcome s work work' old new a) where
-  when_filled : (n : ℕ) → a ≡ Filled n → AllFilled s work work' old new n
+  when_filled : (n : ℕ) → a ≡ Ok n → AllFilled s work work' old new n
   when_filled n e = subst (λ (b : Answer). Outcome s work work' old new b) e x
 
-  when_refused : (n : ℕ) → a ≡ Refused n → Unchanged s work work' old new n
-  when_refused n e = subst (λ (b : Answer). Outcome s work work' old new b) e x
+  when_refused : (n : ℕ) → number_of a ≡ some n → (r : Refusal) × (number r ≡ n) × Unchanged s work work' old new r
+  when_refused n e = let (r, is, k) = refused_by a n e in (r, k, subst (λ (b : Answer). Outcome s work work' old new b) is x)
 
   -- an outcome is this one
-  is_refused : (n : ℕ) → RefusedBy s (length work) (length old) n → a ≡ Refused n
-  is_refused n r = (one_outcome s work work' work old new old a (Refused n) x (record { why = r; works = refl; answers = refl })).answers
+  is_refused : (r : Refusal) → RefusedBy s (length work) (length old) r → number_of a ≡ some (number r)
+  is_refused r why = ap number_of (one_outcome s work work' work old new old a (Err r) x (record { why = why; works = refl; answers = refl })).answers
 
   files_filled : (files : List (List ℕ)) → Class s files → work_size ≤ length work → place_size * length files ≤ length old → (ps : List (List ℕ)) → Places files ps
       → AllFilled s work (cleared_work work) old (joined ps ++ drop (place_size * length files) old) (length files)
   files_filled files c w r ps p = record { files = files; class = c; counted = refl; enough = w; room = r; places = ps; placed = p; works = refl; answers = refl }
 
-  is_filled_lem : (files : List (List ℕ)) → Class s files → work_size ≤ length work → place_size * length files ≤ length old → a ≡ Filled (length files)
+  is_filled_lem : (files : List (List ℕ)) → Class s files → work_size ≤ length work → place_size * length files ≤ length old → a ≡ Ok (length files)
   is_filled_lem files c w r =
-      (one_outcome s work work' (cleared_work work) old new (joined (map place_for files) ++ drop (place_size * length files) old) a (Filled (length files)) x (files_filled files c w r (map place_for files) (some_places files))).answers
+      (one_outcome s work work' (cleared_work work) old new (joined (map place_for files) ++ drop (place_size * length files) old) a (Ok (length files)) x (files_filled files c w r (map place_for files) (some_places files))).answers
 
-  seventeenth : (first more : List ℕ) (files : List (List ℕ)) → s ≡ first ++ more → Holds first files → length files ≡ most_files → 0 < length more → work_size ≤ length work → a ≡ Refused 19
-  seventeenth first more files e h n some w = is_refused 19 (no_class w too_many)
+  seventeenth : (first more : List ℕ) (files : List (List ℕ)) → s ≡ first ++ more → Holds first files → length files ≡ most_files → 0 < length more → work_size ≤ length work → number_of a ≡ some 19
+  seventeenth first more files e h n rest w = is_refused Files (no_class w too_many)
     where
       too_many : (gs : List (List ℕ)) → Class s gs → ⊥
       too_many gs c =
           let (hs, k, m) = held_after first more files gs h (subst (λ (r : List ℕ). Holds r gs) e c.holds) in
-          let y = headed more hs k some in
+          let y = headed more hs k rest in
           let l : length hs ≡ suc (length y.others) = ap length y.is in
           omega (arith, c.few)
 
-  each : (n : ℕ) → a ≡ Filled n → (before after : List (List ℕ)) (f : List ℕ) → Holds s (before ++ f ∷ after) → Placed f (place_in new (length before))
+  each : (n : ℕ) → a ≡ Ok n → (before after : List (List ℕ)) (f : List ℕ) → Holds s (before ++ f ∷ after) → Placed f (place_in new (length before))
   each n e before after f h =
       let y = when_filled n e in
       let g : y.files ≡ before ++ f ∷ after = one_list s y.files (before ++ f ∷ after) y.class.holds h in
       subst (λ (b : List ℕ). Placed f (place_in b (length before))) (sym y.answers)
       (place_at before after f y.places (drop (place_size * length y.files) old) (subst (λ (fs : List (List ℕ)). Places fs y.places) g y.placed))
 
-  all : (n : ℕ) → a ≡ Filled n → (files : List (List ℕ)) → Holds s files → length files ≡ n
+  all : (n : ℕ) → a ≡ Ok n → (files : List (List ℕ)) → Holds s files → length files ≡ n
   all n e files h = let y = when_filled n e in ap length (one_list s files y.files h y.class.holds) ∙ sym y.counted
 
-  beyond : (n : ℕ) → a ≡ Filled n → drop (place_size * n) new ≡ drop (place_size * n) old
+  beyond : (n : ℕ) → a ≡ Ok n → drop (place_size * n) new ≡ drop (place_size * n) old
   beyond n e =
       let y = when_filled n e in
       let k : place_size * n ≡ place_size * length y.files = ap (λ (m : ℕ). place_size * m) y.counted in
       ap₂ (λ (m : ℕ) (l : List ℕ). drop m l) k y.answers ∙ drop_at (joined y.places) (drop (place_size * length y.files) old) (place_size * length y.files) (places_long y.files y.places y.placed) ∙ ap (λ (m : ℕ). drop m old) (sym k)
 
-  nobody : s ≡ [] → work_size ≤ length work → (a ≡ Filled 0) × (work' ≡ cleared_work work) × (new ≡ old)
+  nobody : s ≡ [] → work_size ≤ length work → (a ≡ Ok 0) × (work' ≡ cleared_work work) × (new ≡ old)
   nobody e w =
       let c : Class s [] = record { holds = subst (λ (r : List ℕ). Holds r []) (sym e) the_files.none; few = omega arith } in
-      let y = one_outcome s work work' (cleared_work work) old new old a (Filled 0) x (files_filled [] c w (omega arith) [] none) in
+      let y = one_outcome s work work' (cleared_work work) old new old a (Ok 0) x (files_filled [] c w (omega arith) [] none) in
       (y.answers, y.works, y.areas)
 
 filled_long : (s work work' old new : List ℕ) (n : ℕ) → AllFilled s work work' old new n → length new ≡ length old
@@ -134,8 +126,8 @@ filled_long s work work' old new n y =
     ap length y.answers ∙ length-append (joined y.places) (drop (place_size * length y.files) old) ∙ omega (arith, y.room)
 
 long : (s work work' old new : List ℕ) (a : Answer) → Outcome s work work' old new a → length new ≡ length old
-long s work work' old new (Filled n) x = filled_long s work work' old new n x
-long s work work' old new (Refused n) x = ap length x.answers
+long s work work' old new (Ok n) x = filled_long s work work' old new n x
+long s work work' old new (Err r) x = ap length x.answers
 
 pub promised : (s work work' old new : List ℕ) (a : Answer) → Outcome s work work' old new a → Promised s work work' old new a
 promised s work work' old new a x = record {
@@ -146,23 +138,23 @@ promised s work work' old new a x = record {
   long = long s work work' old new a x;
   nobody = nobody s work work' old new a x;
   ten = (
-    λ e. why_ten s (length work) (length old) 10 refl (when_refused s work work' old new a x 10 e).why,
-    λ h. is_refused s work work' old new a x 10 (no_work h),
+    λ e. let (r, k, y) = when_refused s work work' old new a x 10 e in why_ten s (length work) (length old) r k y.why,
+    λ h. is_refused s work work' old new a x WorkArea (no_work h),
   );
   nineteen = (
-    λ e. why_nineteen s (length work) (length old) 19 refl (when_refused s work work' old new a x 19 e).why,
-    λ h. is_refused s work work' old new a x 19 (no_class h.0 h.1),
+    λ e. let (r, k, y) = when_refused s work work' old new a x 19 e in why_nineteen s (length work) (length old) r k y.why,
+    λ h. is_refused s work work' old new a x Files (no_class h.0 h.1),
   );
   seventeenth = seventeenth s work work' old new a x;
   twenty = (
-    λ e. why_twenty s (length work) (length old) 20 refl (when_refused s work work' old new a x 20 e).why,
-    λ h. is_refused s work work' old new a x 20 (no_room h.0 h.1.0 h.1.1 h.1.2),
+    λ e. let (r, k, y) = when_refused s work work' old new a x 20 e in why_twenty s (length work) (length old) r k y.why,
+    λ h. is_refused s work work' old new a x AnswerArea (no_room h.0 h.1.0 h.1.1 h.1.2),
   );
   filled = λ n. (
     λ e. let y = when_filled s work work' old new a x n e in (y.enough, (y.files, y.class, y.room, y.counted)),
-    λ h. is_filled_lem s work work' old new a x h.1.0 h.1.1 h.0 h.1.2 ∙ ap Filled (sym h.1.3),
+    λ h. is_filled_lem s work work' old new a x h.1.0 h.1.1 h.0 h.1.2 ∙ ap Ok (sym h.1.3),
   );
-  unchanged = λ n e. let y = when_refused s work work' old new a x n e in (y.works, y.answers);
+  unchanged = λ n e. let (r, k, y) = when_refused s work work' old new a x n e in (y.works, y.answers);
 }
 
 by_verdict : (f p : List ℕ) (x : Placed f p) (work records : ℕ) → work_size ≤ work → record_size ≤ records → x.verdict ≡ verdict_of f work records
@@ -171,7 +163,7 @@ by_verdict f p x work records h k =
     let r = record_long in
     x.alone.answer ∙ found_answer f (length zero_work) (length zero_record) (omega arith) (omega arith) ∙ sym (found_answer f work records h k)
 
-says : (f p : List ℕ) (x : Placed f p) (l : Layout) → read_of f ≡ Accepted l → (rule : PlanRule f l) → Says f l rule (drop 4 p) x.verdict
+says : (f p : List ℕ) (x : Placed f p) (l : Layout) → read_of f ≡ Ok l → (rule : PlanRule f l) → Says f l rule (drop 4 p) x.verdict
 says f p x l h rule =
     let w = work_long in
     let r = record_long in

@@ -1,20 +1,35 @@
 -- What the call makes of its answer and of the two lent areas, on every input.
-use Rattle.std.specs.Prelude.{◌≡◌, List, ◌++◌, ℕ, ◌+◌, ◌*◌, ◌%◌, ◌≤◌, ◌<◌, length, drop}
+use Rattle.std.specs.Prelude.{◌≡◌, List, ◌++◌, ℕ, ◌+◌, ◌*◌, ◌%◌, ◌≤◌, ◌<◌, length, drop, Result, Ok, Err}
+use Rattle.std.proofs.Math.Option.{Option, none, some}
 use Rattle.judge.specs.Verdict.{work_size}
 use Rattle.judge.specs.Judged.{cleared_work}
 use Rattle.handed.specs.Files.{Class}
 use Rattle.place.specs.Place.{place_size, Places, joined}
-use Rattle.class.specs.declared.Answer.{Answer}
-use Rattle.class.specs.declared.Answer.TheVariants.{Filled, Refused}
+use Rattle.class.specs.declared.Refusal.{Refusal}
+use Rattle.class.specs.declared.Refusal.TheVariants.{WorkArea, Files, AnswerArea}
+
+-- Why a call is refused has a number;
+abbrev pub number : Refusal → ℕ
+number WorkArea = 10
+number Files = 19
+number AnswerArea = 20
+
+-- and the answer is how many places are filled, or why none is.
+abbrev pub Answer : Type 0
+Answer = Result ℕ Refusal
+
+abbrev pub number_of : Answer → Option ℕ
+number_of (Ok count) = none
+number_of (Err r) = some (number r)
 
 -- "Checks: 10 first, then 19 for a cut length or file or more than 16, then 20 for an answer area too short; these refuse the whole call."
-pub data RefusedBy (s : List ℕ) (work room : ℕ) : ℕ → Type 0 where
-  no_work : work < work_size → RefusedBy s work room 10
-  no_class : work_size ≤ work → ((files : List (List ℕ)) → Class s files → ⊥) → RefusedBy s work room 19
-  no_room : work_size ≤ work → (files : List (List ℕ)) → Class s files → room < place_size * length files → RefusedBy s work room 20
+pub data RefusedBy (s : List ℕ) (work room : ℕ) : Refusal → Type 0 where
+  no_work : work < work_size → RefusedBy s work room WorkArea
+  no_class : work_size ≤ work → ((files : List (List ℕ)) → Class s files → ⊥) → RefusedBy s work room Files
+  no_room : work_size ≤ work → (files : List (List ℕ)) → Class s files → room < place_size * length files → RefusedBy s work room AnswerArea
 
-pub record Unchanged (s work work' old new : List ℕ) (number : ℕ) : Type 0 where
-  pub why : RefusedBy s (length work) (length old) number
+pub record Unchanged (s work work' old new : List ℕ) (r : Refusal) : Type 0 where
+  pub why : RefusedBy s (length work) (length old) r
   pub works : work' ≡ work
   pub answers : new ≡ old
 
@@ -32,8 +47,8 @@ pub record AllFilled (s work work' old new : List ℕ) (count : ℕ) : Type 0 wh
   pub answers : new ≡ joined places ++ drop (place_size * length files) old
 
 abbrev pub Outcome : List ℕ → List ℕ → List ℕ → List ℕ → List ℕ → Answer → Type 0
-Outcome s work work' old new (Filled count) = AllFilled s work work' old new count
-Outcome s work work' old new (Refused number) = Unchanged s work work' old new number
+Outcome s work work' old new (Ok count) = AllFilled s work work' old new count
+Outcome s work work' old new (Err r) = Unchanged s work work' old new r
 
 -- On one input there is one outcome at most. The proof is `one_outcome`; that there is one is `SomeOutcome` (Computed.antt).
 pub record Same (a b : Answer) (work work' new new' : List ℕ) : Type 0 where
@@ -46,8 +61,8 @@ OneOutcome = (s work work' work'' old new new' : List ℕ) (a b : Answer) → Ou
 
 -- One number for each answer, for callers that have no enum. A count is at most 16; the remainder makes the definition total.
 abbrev pub code_of : Answer → ℕ
-code_of (Filled count) = count % 65536
-code_of (Refused number) = 131072 + number
+code_of (Ok count) = count % 65536
+code_of (Err r) = 131072 + number r
 
 -- The answer to some call.
 pub record IsAnswer (a : Answer) : Type 0 where

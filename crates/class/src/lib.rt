@@ -2,39 +2,46 @@
 // with what the single verdict says of it.
 #![tactic(auto)]
 
-ghost use Rattle.std.specs.Prelude.{◌≡◌, ◌||◌, ◌≤◌, length};
+ghost use Rattle.std.specs.Prelude.{◌≡◌, ◌≤◌, length};
 ghost use Rattle.judge.specs.Verdict.{work_size};
 ghost use Rattle.place.specs.Work.{work_left};
 ghost use Rattle.class.specs.Steps.{Ready, PlacesAfter};
-ghost use Rattle.class.specs.Outcome.{Outcome, code_of};
+ghost use Rattle.class.specs.Outcome.{Outcome, number, code_of};
 
-use handed::Count;
 use place::PLACE;
 
-// So many places are filled, or the number that refuses the whole call.
-#[derive(Drop)]
-pub enum Answer {
-    Filled(usize),
-    Refused(u8),
+// Why a whole call is refused: an area is too short, or the input is not that of a class.
+#[derive(Clone, Copy, Debug, PartialEq, Eq)]
+pub enum Refusal {
+    WorkArea,
+    Files,
+    AnswerArea,
 }
+
+impl Refusal {
+    // Document 02's number for it.
+    pub fn number(self) -> u8
+        ensures { result ≡ number self }
+    {
+        match self {
+            Refusal::WorkArea => 10,
+            Refusal::Files => 19,
+            Refusal::AnswerArea => 20,
+        }
+    }
+}
+
+// How many places are filled.
+pub type Answer = Result<usize, Refusal>;
 
 // One number for an answer: how many places are filled, or twice 65,536 and the refusal's number.
 pub fn code(a: Answer) -> u32
     ensures { result ≡ code_of a }
 {
     match a {
-        Answer::Filled(n) => (n % 65536) as u32,
-        Answer::Refused(number) => 131072 + number as u32,
+        Ok(n) => (n % 65536) as u32,
+        Err(refusal) => 131072 + u32::from(refusal.number()),
     }
-}
-
-fn either(a: bool, b: bool) -> bool
-    ensures { result ≡ (a || b) }
-{
-    if a {
-        return true;
-    }
-    b
 }
 
 // Fills the place of each file, and answers whether the work area is cleared. The part of the answer area that starts at a plan's place is lent on.
@@ -47,13 +54,11 @@ fn fill_all(input: &[u8], work: &mut [u8], answers: &mut [u8]) -> bool
     let mut cleared = false;
     let mut at = 0;
     let mut to = 0;
+    // By the lengths in the input: how far a file goes is not known before it is reached.
     while at < input.len() {
         let start = at + 2;
         let end = start + blocks::number_at(input, at);
-        cleared = either(
-            cleared,
-            place::fill(&input[start..end], work, &mut answers[to..]),
-        );
+        cleared |= place::fill(&input[start..end], work, &mut answers[to..]);
         at = end;
         to += PLACE;
     }
@@ -65,16 +70,16 @@ pub fn verdicts(input: &[u8], work: &mut [u8], answers: &mut [u8]) -> Answer
     ensures { Outcome input.now work.old work.new answers.old answers.new result }
 {
     if work.len() < judge::WORK {
-        return Answer::Refused(10);
+        return Err(Refusal::WorkArea);
     }
-    let Count::Files(n) = handed::count_files(input) else {
-        return Answer::Refused(19);
+    let Some(n) = handed::count_files(input) else {
+        return Err(Refusal::Files);
     };
     if answers.len() < PLACE * n {
-        return Answer::Refused(20);
+        return Err(Refusal::AnswerArea);
     }
     if !fill_all(input, work, answers) {
-        blocks::clear(work, 0, judge::WORK);
+        work[..judge::WORK].fill(0);
     }
-    Answer::Filled(n)
+    Ok(n)
 }

@@ -6,6 +6,7 @@
 
 ghost use Rattle.std.specs.Prelude.{◌≡◌, length, replicate};
 
+use output::Failed;
 use vectors::Group;
 
 // Room for a whole data file, all 0. A longer one is cut there, and is damaged where a vector or more is then missing.
@@ -17,24 +18,28 @@ fn room() -> [u8; 1048576]
 }
 
 // The group's vectors, from the data file of this name.
-fn run(rt: &HostRuntime, group: Group, name: &[u8]) {
-    let mut data = room();
-    let got = input::fill_from(rt, name, &mut data);
-    let n = got.filled.count;
-    if let Some(why) = got.why {
-        output::fail(&rt.stderr(), name, why);
-        return;
-    }
-    if let Err(why) = output::write(rt, comparison::lines::lines(group, &data[..n])) {
-        output::fail(&rt.stderr(), b"standard output", why);
-    }
+fn run(rt: &HostRuntime, group: Group, name: &[u8], data: &mut [u8]) -> Result<(), Failed> {
+    let n = input::fill_from(rt, name, data).map_err(|e| output::fail(&rt.stderr(), name, e.why))?;
+    output::show(
+        rt,
+        &rt.stderr(),
+        &comparison::lines::lines(group, &data[..n]),
+    )
 }
 
+const GROUPS: [(Group, &[u8]); 6] = [
+    (Group::Files, b"files"),
+    (Group::Runs, b"runs"),
+    (Group::Hours, b"hours"),
+    (Group::Verdicts, b"verdicts"),
+    (Group::Formulas, b"formulas"),
+    (Group::Classes, b"classes"),
+];
+
+// A data file that fails is told, and the next group is compared.
 fn main(rt: HostRuntime) {
-    run(&rt, Group::Files, b"files");
-    run(&rt, Group::Runs, b"runs");
-    run(&rt, Group::Hours, b"hours");
-    run(&rt, Group::Verdicts, b"verdicts");
-    run(&rt, Group::Formulas, b"formulas");
-    run(&rt, Group::Classes, b"classes");
+    let mut data = room();
+    for (group, name) in GROUPS {
+        let _ = run(&rt, group, name, &mut data);
+    }
 }

@@ -4,7 +4,6 @@ use mathlib.Core.Bool.{Bool, true, false, cond}
 use mathlib.Core.List.{List, [], ◌++◌}
 use Prim.Native.Nat.{ℕ, ◌+◌, ◌≤◌}
 use native.Mathlib.Omega.{arith}
-use lib.Dec.{eqb}
 use lib.ListN.{length, take, drop, length-append, length-take}
 use Rattle.text.specs.Decimal.{decimal}
 use Rattle.text.specs.Text.{ascii, empty, pushed, appended, text_of}
@@ -15,6 +14,7 @@ use Rattle.vectors.specs.declared.Group.{Group}
 use Rattle.vectors.specs.declared.Group.TheVariants.{Files, Runs, Hours, Verdicts, Formulas, Classes}
 use Rattle.comparison.specs.Data.{is_named, name_length, name_at}
 use Rattle.comparison.specs.Lines.{title_of, difference_line, counts_line, damage_line, difference_lines, damage_lines, lines_for}
+use Rattle.std.specs.Prelude.{Option, Some, None}
 use Rattle.comparison.specs.declared.Difference.{Difference}
 use Rattle.comparison.specs.declared.Comparison.{Comparison}
 use Rattle.comparison.proofs.Vectors.{named_says}
@@ -50,13 +50,10 @@ name_few s at = go (is_named s at) refl
     go true e = simp length-take (omega (arith, (named_says s at e).0))
     go false e = omega arith
 
-difference_few : (group : Group) (s : List ℕ) (d : Difference) → length (difference_lines group s d) ≤ 200
+difference_few : (group : Group) (s : List ℕ) (first : Option Difference) → length (difference_lines group s first) ≤ 200
 unfolding difference_line
-difference_few group s d = go (eqb d.number 0)
-  where
-    go : (b : Bool) → length (cond b [] (difference_line group (name_at s d.at) d)) ≤ 200
-    go true = omega arith
-    go false = simp length-append (omega (arith, title_few group, name_few s d.at, decimal_length d.number, decimal_length d.expected, decimal_length d.found))
+difference_few group s None = omega arith
+difference_few group s (Some d) = simp length-append (omega (arith, title_few group, name_few s d.at, decimal_length d.number, decimal_length d.expected, decimal_length d.found))
 
 counts_few : (group : Group) (c : Comparison) → length (counts_line group c) ≤ 100
 unfolding counts_line

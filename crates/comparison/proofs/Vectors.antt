@@ -4,14 +4,17 @@ use mathlib.Core.Bool.{Bool, true, false, cond, true≢false}
 use mathlib.Core.List.{List}
 use Prim.Native.Nat.{ℕ, suc, ◌+◌, ◌-◌, ◌≤◌, ◌<◌}
 use native.Mathlib.Omega.{arith}
-use lib.Dec.{leb}
+use lib.Dec.{leb, eqb}
 use lib.ListN.{length, take, drop}
-use borrow.Author.Tests.{leb-true, leb-false, le-leb, lt-leb, eq-eqb, ne_eqb}
+use borrow.Author.Tests.{leb-true}
+use Rattle.std.proofs.lemmas.Option.{some_pair_parts}
+use Rattle.std.specs.Prelude.{Option, Some, None}
 use Rattle.fields.specs.Number.{four_at}
+use Rattle.vectors.specs.Groups.{outcome_in}
 use Rattle.vectors.specs.declared.Group.{Group}
 use Rattle.vectors.specs.declared.outcome.Outcome.{Outcome}
 use Rattle.vectors.specs.declared.outcome.Outcome.TheVariants.{Agrees, Differs, Damaged}
-use Rattle.comparison.specs.Data.{name_length, body_start, body_length, vector_end, is_named, is_whole, outcome_at, damaged, counted, after, fresh, compared_from, compared_of}
+use Rattle.comparison.specs.Data.{name_length, body_start, body_length, vector_end, is_named, is_whole, start_at, body_at, outcome_at, damaged, counted, after, fresh, compared_from, compared_of}
 use Rattle.comparison.specs.declared.Comparison.{Comparison}
 
 both : (x y : Bool) → cond x y false ≡ true → (x ≡ true) × (y ≡ true)
@@ -22,39 +25,35 @@ pub named_says : (s : List ℕ) (at : ℕ) → is_named s at ≡ true → (name_
 unfolding is_named
 named_says s at h = let (x, y) = both _ _ h in (leb-true _ _ x, leb-true _ _ y)
 
-pub named_so : (s : List ℕ) (at : ℕ) → name_length s at ≤ 64 → body_start s at ≤ length s → is_named s at ≡ true
-unfolding is_named
-named_so s at h k = rw (le-leb _ _ h, le-leb _ _ k)
-
-pub too_long : (s : List ℕ) (at : ℕ) → 64 < name_length s at → is_named s at ≡ false
-unfolding is_named
-too_long s at h = rw (lt-leb _ _ h)
-
-either_false : (x y : Bool) → y ≡ false → cond x y false ≡ false
-either_false true y h = h
-either_false false y h = refl
-
-pub not_there : (s : List ℕ) (at : ℕ) → length s < body_start s at → is_named s at ≡ false
-unfolding is_named
-not_there s at h = either_false (leb (name_length s at) 64) (leb (body_start s at) (length s)) (lt-leb _ _ h)
-
--- what is left has room, exactly where the end lies inside
-room_left : (n room end long : ℕ) → room + end ≡ long + n → leb n room ≡ leb end long
-room_left n room end long e = go (leb n room) refl
+-- where the body of a vector starts, whose name is there
+pub started : (s : List ℕ) (at start : ℕ) → start_at s at ≡ Some start → (is_named s at ≡ true) × (start ≡ body_start s at)
+started s at start = go (is_named s at) refl
   where
-    go : (b : Bool) → leb n room ≡ b → b ≡ leb end long
-    go true h = sym (le-leb end long (omega (arith, leb-true n room h)))
-    go false h = sym (lt-leb end long (omega (arith, leb-false n room h)))
+    go : (b : Bool) → is_named s at ≡ b → cond b (Some (body_start s at)) None ≡ Some start → (is_named s at ≡ true) × (start ≡ body_start s at)
+    go true h e = (h, cc)
+    go false h e = cc
 
-pub named_by : (s : List ℕ) (at : ℕ) → name_length s at ≤ 64 → at + 8 ≤ length s → leb (name_length s at) (length s - 8 - at) ≡ is_named s at
-unfolding is_named
-named_by s at h k = rw (le-leb _ _ h) (room_left (name_length s at) (length s - 8 - at) (body_start s at) (length s) (omega arith))
+pub not_started : (s : List ℕ) (at : ℕ) → start_at s at ≡ None → is_named s at ≡ false
+not_started s at = go (is_named s at) refl
+  where
+    go : (b : Bool) → is_named s at ≡ b → cond b (Some (body_start s at)) None ≡ None → is_named s at ≡ false
+    go true h e = cc
+    go false h e = h
 
-pub whole_by : (s : List ℕ) (at : ℕ) → is_named s at ≡ true → leb (body_length s at) (length s - body_start s at) ≡ is_whole s at
-unfolding is_whole
-whole_by s at h =
-    let k = (named_says s at h).1 in
-    rw h (room_left (body_length s at) (length s - body_start s at) (vector_end s at) (length s) (omega arith))
+-- and where it lies, where it is there too
+pub lies : (s : List ℕ) (at start end : ℕ) → body_at s at ≡ Some (start, end) → (is_whole s at ≡ true) × (start ≡ body_start s at) × (end ≡ vector_end s at)
+lies s at start end = go (is_whole s at) refl
+  where
+    go : (b : Bool) → is_whole s at ≡ b → ◌≡◌ {A = Option (ℕ × ℕ)} (cond b (Some (body_start s at, vector_end s at)) None) (Some (start, end)) → (is_whole s at ≡ true) × (start ≡ body_start s at) × (end ≡ vector_end s at)
+    go true h e = let (x, y) = some_pair_parts _ _ _ _ e in (h, sym x, sym y)
+    go false h e = cc
+
+pub lies_not : (s : List ℕ) (at : ℕ) → body_at s at ≡ None → is_whole s at ≡ false
+lies_not s at = go (is_whole s at) refl
+  where
+    go : (b : Bool) → is_whole s at ≡ b → ◌≡◌ {A = Option (ℕ × ℕ)} (cond b (Some (body_start s at, vector_end s at)) None) None → is_whole s at ≡ false
+    go true h e = cc
+    go false h e = h
 
 pub whole_says : (s : List ℕ) (at : ℕ) → is_whole s at ≡ true → (is_named s at ≡ true) × (vector_end s at ≤ length s)
 unfolding is_whole
@@ -66,14 +65,14 @@ part_is s start end from n e f =
     let long : end - start ≡ n = omega arith in
     rw (long, e)
 
--- a vector that is not damaged is whole
-pub counted_whole : (group : Group) (s : List ℕ) (at : ℕ) (c : Comparison) → (after group s at c).whole ≡ true → is_whole s at ≡ true
+-- what a vector comes to, by where its body lies
+pub outcome_there : (group : Group) (s : List ℕ) (at start end : ℕ) → is_whole s at ≡ true → start ≡ body_start s at → end ≡ vector_end s at → outcome_in group (take (end - start) (drop start s)) ≡ outcome_at group s at
 unfolding outcome_at
-counted_whole group s at c h = go (is_whole s at) refl
-  where
-    go : (b : Bool) → is_whole s at ≡ b → is_whole s at ≡ true
-    go true e = e
-    go false e = absurd (true≢false (sym (rw e at h)))
+outcome_there group s at start end h e f = rw h (ap (outcome_in group) (part_is s start end (body_start s at) (body_length s at) e f))
+
+pub damaged_there : (group : Group) (s : List ℕ) (at : ℕ) (c : Comparison) → is_whole s at ≡ false → after group s at c ≡ damaged c
+unfolding outcome_at
+damaged_there group s at c h = rw h
 
 -- the counts after one vector more
 pub record Grows (c d : Comparison) : Type 0 where
@@ -97,19 +96,23 @@ module _ (group : Group) (s : List ℕ) (at : ℕ) (c : Comparison) where
   unfolding compared_from
   stops left h w = ap (λ (k : ℕ). compared_from k group s at c) (one_more left h) ∙ rw w
 
-  pub at_end : (left : ℕ) → left ≤ 0 → at ≡ length s → compared_from left group s at c ≡ c
-  unfolding compared_from
-  at_end left h e = let none : left ≡ 0 = omega arith in rw (none, eq-eqb _ _ e)
+  -- after the last nothing may come
+  abbrev ended : Bool → Comparison
+  ended whole = record { vectors = c.vectors; agree = c.agree; whole = whole; first = c.first }
 
-  pub not_at_end : (left : ℕ) → left ≤ 0 → (at ≡ length s → ⊥) → compared_from left group s at c ≡ damaged c
+  pub ends : (left : ℕ) → left ≤ 0 → c.whole ≡ true → compared_from left group s at c ≡ record { vectors = c.vectors; agree = c.agree; whole = eqb at (length s); first = c.first }
   unfolding compared_from
-  not_at_end left h e = let none : left ≡ 0 = omega arith in rw (none, ne_eqb _ _ e)
+  ends left h w = let none : left ≡ 0 = omega arith in rw none (go (eqb at (length s)))
+    where
+      go : (b : Bool) → cond b c (damaged c) ≡ ended b
+      go true = ap ended w
+      go false = refl
 
 -- the vectors of a file with fewer than four bytes, and of any other
-pub too_short : (group : Group) (s : List ℕ) (c r : Comparison) → length s < 4 → c ≡ fresh → r ≡ damaged c → r ≡ compared_of group s
+pub too_short : (group : Group) (s : List ℕ) → leb 4 (length s) ≡ false → damaged fresh ≡ compared_of group s
 unfolding compared_of
-too_short group s c r h e q = rw (lt-leb _ _ h) (q ∙ ap damaged e)
+too_short group s h = rw h
 
-pub all_compared : (group : Group) (s : List ℕ) (n : ℕ) (c r : Comparison) → 4 ≤ length s → n ≡ four_at s 0 → c ≡ fresh → compared_from n group s 4 c ≡ r → r ≡ compared_of group s
+pub all_compared : (group : Group) (s : List ℕ) (n : ℕ) (r : Comparison) → leb 4 (length s) ≡ true → n ≡ four_at s 0 → compared_from n group s 4 fresh ≡ r → r ≡ compared_of group s
 unfolding compared_of
-all_compared group s n c r h e f q = rw (le-leb _ _ h) (sym q ∙ rw (e, f))
+all_compared group s n r h f q = rw h (sym q ∙ ap (λ (k : ℕ). compared_from k group s 4 fresh) f)

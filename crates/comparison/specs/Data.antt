@@ -1,7 +1,8 @@
 -- A data file of vectors: "the number of its vectors, then the vectors. A vector is the length of its name, the length of its body, the
 -- name, and the body. These numbers have four bytes each, the lowest first." What comparing all of its vectors comes to, for every list
 -- of bytes: an agreement counts only where what was found in the body of a vector is what it expects.
-use Rattle.std.specs.Prelude.{Bool, true, false, cond, List, [], ℕ, zero, suc, ◌+◌, leb, eqb, length, take, drop}
+use Rattle.std.specs.Prelude.{Bool, true, false, cond, List, [], ℕ, zero, suc, ◌+◌, leb, eqb, length, take, drop, Option, None, Some}
+use Rattle.std.specs.Option.{option_or}
 use Rattle.fields.specs.Number.{four_at}
 use Rattle.vectors.specs.Groups.{outcome_in}
 use Rattle.vectors.specs.declared.Group.{Group}
@@ -31,6 +32,13 @@ is_named s at = cond (leb (name_length s at) 64) (leb (body_start s at) (length 
 unfoldable pub is_whole : List ℕ → ℕ → Bool
 is_whole s at = cond (is_named s at) (leb (vector_end s at) (length s)) false
 
+-- where its body starts, and where it starts and ends, where that is there
+abbrev pub start_at : List ℕ → ℕ → Option ℕ
+start_at s at = cond (is_named s at) (Some (body_start s at)) None
+
+abbrev pub body_at : List ℕ → ℕ → Option (ℕ × ℕ)
+body_at s at = cond (is_whole s at) (Some (body_start s at, vector_end s at)) None
+
 unfoldable pub name_at : List ℕ → ℕ → List ℕ
 name_at s at = cond (is_named s at) (take (name_length s at) (drop (at + 8) s)) []
 
@@ -38,30 +46,22 @@ name_at s at = cond (is_named s at) (take (name_length s at) (drop (at + 8) s)) 
 unfoldable pub outcome_at : Group → List ℕ → ℕ → Outcome
 outcome_at group s at = cond (is_whole s at) (outcome_in group (take (body_length s at) (drop (body_start s at) s))) Damaged
 
--- no vector differs: its number, counted from 1, would be 0
-abbrev pub no_difference : Difference
-no_difference = record { number = 0; at = 0; expected = 0; found = 0 }
-
 -- nothing has been compared
 abbrev pub fresh : Comparison
-fresh = record { vectors = 0; agree = 0; whole = true; first = no_difference }
+fresh = record { vectors = 0; agree = 0; whole = true; first = None }
 
 -- the data file does not have all that it says, or more
 abbrev pub damaged : Comparison → Comparison
 damaged c = record { vectors = c.vectors; agree = c.agree; whole = false; first = c.first }
 
--- the first difference stays
-abbrev pub first_of : Difference → Difference → Difference
-first_of d e = cond (eqb d.number 0) e d
-
--- one vector more, which stands at `at`
+-- one vector more, which stands at `at`; the first difference stays
 abbrev pub counted : Comparison → ℕ → Outcome → Comparison
 counted c at Agrees = record { vectors = c.vectors + 1; agree = c.agree + 1; whole = c.whole; first = c.first }
 counted c at (Differs expected found) = record {
   vectors = c.vectors + 1;
   agree = c.agree;
   whole = c.whole;
-  first = first_of c.first (record { number = c.vectors + 1; at = at; expected = expected; found = found });
+  first = option_or c.first (Some (record { number = c.vectors + 1; at = at; expected = expected; found = found }));
 }
 counted c at Damaged = damaged c
 

@@ -1,6 +1,6 @@
 -- The lines that tell of a data file's vectors: the first that differs, where one does; how many there are and how many agree; and that
 -- the file is damaged, where it is.
-use Rattle.std.specs.Prelude.{cond, List, [], ◌∷◌, ◌++◌, ℕ, eqb}
+use Rattle.std.specs.Prelude.{cond, List, [], ◌∷◌, ◌++◌, ℕ, Option, None, Some}
 use Rattle.text.specs.Decimal.{decimal}
 use Rattle.text.specs.Text.{ascii}
 use Rattle.vectors.specs.declared.Group.{Group}
@@ -44,8 +44,9 @@ damage_line group =
     title_of group
     ++ (ascii ": the data file is damaged after these\n")
 
-abbrev pub difference_lines : Group → List ℕ → Difference → List ℕ
-difference_lines group s d = cond (eqb d.number 0) [] (difference_line group (name_at s d.at) d)
+abbrev pub difference_lines : Group → List ℕ → Option Difference → List ℕ
+difference_lines group s None = []
+difference_lines group s (Some d) = difference_line group (name_at s d.at) d
 
 abbrev pub damage_lines : Group → Comparison → List ℕ
 damage_lines group c = cond c.whole [] (damage_line group)

@@ -4,8 +4,8 @@
 // the body. These numbers have four bytes each, the lowest first. What a body holds is its group's to say, in the crate `vectors`.
 #![tactic(auto)]
 
-ghost use Rattle.std.specs.Prelude.{◌≡◌, true, ◌+◌, ◌≤◌, ◌<◌, length};
-ghost use Rattle.comparison.specs.Data.{body_start, vector_end, is_named, is_whole, outcome_at, fresh, damaged, first_of, counted, compared_of};
+ghost use Rattle.std.specs.Prelude.{◌≡◌, ◌≤◌, ◌<◌, length};
+ghost use Rattle.comparison.specs.Data.{start_at, body_at, counted, compared_of};
 
 use fields::number::four_at;
 use vectors::Group;
@@ -13,8 +13,8 @@ use vectors::outcome::Outcome;
 
 pub mod lines;
 
-// The first vector that differs: its number, counted from 1, where it stands, and what was expected and found. 0: none.
-#[derive(Clone, Copy)]
+// A vector that differs: its number, counted from 1, where it stands, and what was expected and found.
+#[derive(Clone, Copy, Debug, PartialEq, Eq)]
 pub struct Difference {
     pub number: u64,
     pub at: usize,
@@ -22,141 +22,64 @@ pub struct Difference {
     pub found: u64,
 }
 
-// The vectors that were compared, those of them that agree, and whether the data file has just those that it says.
-#[derive(Clone, Copy)]
+// The vectors that were compared, those of them that agree, whether the data file has just those that it says, and the first that differs.
+#[derive(Clone, Copy, Debug, PartialEq, Eq)]
 pub struct Comparison {
     pub vectors: u64,
     pub agree: u64,
     pub whole: bool,
-    pub first: Difference,
+    pub first: Option<Difference>,
 }
 
-// Whether the name of the vector at `at` is there, with at most 64 bytes.
-fn is_named(s: &[u8], at: usize) -> bool
-    ensures { result ≡ is_named s.now at }
+// Where the body of the vector at `at` starts, if its name is there, with at most 64 bytes.
+#[tactic(auto, unfolding(crate::specs::Data::is_named))]
+fn body_start(s: &[u8], at: usize) -> Option<usize>
+    ensures { result ≡ start_at s.now at }
 {
     let n = four_at(s, at) as usize;
-    if n > 64 {
-        return false;
+    if n <= 64 && 8 <= s.len() && at <= s.len() - 8 && n <= s.len() - 8 - at {
+        Some(at + 8 + n)
+    } else {
+        None
     }
-    if s.len() < 8 {
-        return false;
-    }
-    let room = s.len() - 8;
-    if room < at {
-        return false;
-    }
-    n <= room - at
 }
 
-// Where its body starts.
-fn body_start(s: &[u8], at: usize) -> usize
-    requires { is_named s.now at ≡ true }
-    ensures { (result ≡ body_start s.now at) × (result ≤ length s.now) }
+// Where its body starts and ends, if it is there too.
+#[tactic(auto, unfolding(crate::specs::Data::is_named, crate::specs::Data::is_whole))]
+fn body_at(s: &[u8], at: usize) -> Option<(usize, usize)>
+    ensures { result ≡ body_at s.now at }
 {
-    at + 8 + four_at(s, at) as usize
-}
-
-// Whether its body is there too.
-fn is_whole(s: &[u8], at: usize) -> bool
-    ensures { result ≡ is_whole s.now at }
-{
-    if !is_named(s, at) {
-        return false;
-    }
-    let room = s.len() - body_start(s, at);
+    let start = body_start(s, at)?;
     let n = four_at(s, at + 4) as usize;
-    n <= room
-}
-
-// Where the vector ends.
-fn end_of(s: &[u8], at: usize) -> usize
-    requires { is_whole s.now at ≡ true }
-    ensures { (result ≡ vector_end s.now at) × (result ≤ length s.now) }
-{
-    body_start(s, at) + four_at(s, at + 4) as usize
-}
-
-// What the vector at `at` comes to.
-fn outcome_at(group: Group, s: &[u8], at: usize) -> Outcome
-    ensures { result ≡ outcome_at group s.now at }
-{
-    if !is_whole(s, at) {
-        return Outcome::Damaged;
-    }
-    let start = body_start(s, at);
-    let end = end_of(s, at);
-    vectors::compare(group, &s[start..end])
-}
-
-fn mark_damaged(c: Comparison) -> Comparison
-    ensures { result ≡ damaged c }
-{
-    let first = c.first;
-    Comparison {
-        vectors: c.vectors,
-        agree: c.agree,
-        whole: false,
-        first,
+    if n <= s.len() - start {
+        Some((start, start + n))
+    } else {
+        None
     }
 }
 
-// The first difference stays.
-fn first_of(d: Difference, e: Difference) -> Difference
-    ensures { result ≡ first_of d e }
-{
-    if d.number == 0 {
-        return e;
-    }
-    d
-}
-
-// One vector more, which stands at `at` and had this outcome.
-fn count(c: Comparison, at: usize, outcome: Outcome) -> Comparison
-    requires { (c.agree ≤ c.vectors) × (c.vectors < 4294967296) }
-    ensures { result ≡ counted c at outcome }
-{
-    let first = c.first;
-    match outcome {
-        Outcome::Agrees => Comparison {
-            vectors: c.vectors + 1,
-            agree: c.agree + 1,
-            whole: c.whole,
-            first,
-        },
-        Outcome::Differs { expected, found } => {
-            let this = Difference {
-                number: c.vectors + 1,
-                at,
-                expected,
-                found,
-            };
-            let kept = first_of(first, this);
-            Comparison {
-                vectors: c.vectors + 1,
-                agree: c.agree,
-                whole: c.whole,
-                first: kept,
+impl Comparison {
+    // One vector more, which stands at `at` and had this outcome. The first difference stays.
+    fn count(&mut self, at: usize, outcome: Outcome)
+        requires { (self.old.agree ≤ self.old.vectors) × (self.old.vectors < 4294967296) }
+        ensures { self.new ≡ counted self.old at outcome }
+    {
+        match outcome {
+            Outcome::Agrees => {
+                self.vectors += 1;
+                self.agree += 1;
             }
+            Outcome::Differs { expected, found } => {
+                self.vectors += 1;
+                self.first = self.first.or(Some(Difference {
+                    number: self.vectors,
+                    at,
+                    expected,
+                    found,
+                }));
+            }
+            Outcome::Damaged => self.whole = false,
         }
-        Outcome::Damaged => mark_damaged(c),
-    }
-}
-
-fn start() -> Comparison
-    ensures { result ≡ fresh }
-{
-    let first = Difference {
-        number: 0,
-        at: 0,
-        expected: 0,
-        found: 0,
-    };
-    Comparison {
-        vectors: 0,
-        agree: 0,
-        whole: true,
-        first,
     }
 }
 
@@ -164,22 +87,27 @@ fn start() -> Comparison
 pub fn compared(group: Group, s: &[u8]) -> Comparison
     ensures { result ≡ compared_of group s.now }
 {
-    let mut c = start();
-    if s.len() < 4 {
-        return mark_damaged(c);
+    let mut c = Comparison {
+        vectors: 0,
+        agree: 0,
+        whole: 4 <= s.len(),
+        first: None,
+    };
+    if !c.whole {
+        return c;
     }
-    let mut left = four_at(s, 0);
     let mut at = 4;
-    while left > 0 {
-        c = count(c, at, outcome_at(group, s, at));
+    'vectors: for _ in 0..four_at(s, 0) {
+        let Some((start, end)) = body_at(s, at) else {
+            c.whole = false;
+            return c;
+        };
+        c.count(at, vectors::compare(group, &s[start..end]));
         if !c.whole {
             return c;
         }
-        at = end_of(s, at);
-        left -= 1;
+        at = end;
     }
-    if at == s.len() {
-        return c;
-    }
-    mark_damaged(c)
+    c.whole = at == s.len();
+    c
 }

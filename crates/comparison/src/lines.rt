@@ -1,88 +1,88 @@
 // The lines that tell of a data file's vectors, as a text.
 ghost use Rattle.std.specs.Prelude.{◌≡◌};
-ghost use Rattle.text.specs.Text.{empty, appended, text_of};
+ghost use Rattle.text.specs.Text.{appended, text_of};
 ghost use Rattle.comparison.specs.Data.{name_at};
-ghost use Rattle.comparison.specs.Lines.{title_of, difference_line, counts_line, damage_line, difference_lines, lines_for, comparison_lines};
+ghost use Rattle.comparison.specs.Lines.{title_of, difference_line, difference_lines, counts_line, damage_line, comparison_lines};
 
 use crate::{Comparison, Difference};
 use text::Text;
 use vectors::Group;
 
-fn put_title(t: Text, group: Group) -> Text
-    ensures { result ≡ appended t (title_of group) }
+fn put_title(t: &mut Text, group: Group)
+    ensures { t.new ≡ appended t.old (title_of group) }
 {
     match group {
-        Group::Files => text::put(t, b"files"),
-        Group::Runs => text::put(t, b"runs"),
-        Group::Hours => text::put(t, b"hours"),
-        Group::Verdicts => text::put(t, b"verdicts"),
-        Group::Formulas => text::put(t, b"formulas"),
-        Group::Classes => text::put(t, b"classes"),
+        Group::Files => t.put(b"files"),
+        Group::Runs => t.put(b"runs"),
+        Group::Hours => t.put(b"hours"),
+        Group::Verdicts => t.put(b"verdicts"),
+        Group::Formulas => t.put(b"formulas"),
+        Group::Classes => t.put(b"classes"),
     }
 }
 
 // The name of the vector at `at`.
-fn put_name(t: Text, s: &[u8], at: usize) -> Text
-    ensures { result ≡ appended t (name_at s.now at) }
+fn put_name(t: &mut Text, s: &[u8], at: usize)
+    ensures { t.new ≡ appended t.old (name_at s.now at) }
 {
-    if !crate::is_named(s, at) {
-        return t;
+    if let Some(start) = crate::body_start(s, at) {
+        t.put(&s[at + 8..start]);
     }
-    let start = at + 8;
-    let end = crate::body_start(s, at);
-    text::put(t, &s[start..end])
 }
 
-fn put_difference(t: Text, group: Group, s: &[u8], d: Difference) -> Text
-    ensures { result ≡ appended t (difference_line group (name_at s.now d.at) d) }
+fn put_difference(t: &mut Text, group: Group, s: &[u8], d: Difference)
+    ensures { t.new ≡ appended t.old (difference_line group (name_at s.now d.at) d) }
 {
-    let numbered = text::put_decimal(text::put(put_title(t, group), b": vector "), d.number);
-    let named = put_name(text::put(numbered, b" ("), s, d.at);
-    let expected = text::put_decimal(text::put(named, b"): expected "), d.expected);
-    let found = text::put_decimal(text::put(expected, b", found "), d.found);
-    text::push(found, 10)
+    put_title(t, group);
+    t.put(b": vector ");
+    t.put_decimal(d.number);
+    t.put(b" (");
+    put_name(t, s, d.at);
+    t.put(b"): expected ");
+    t.put_decimal(d.expected);
+    t.put(b", found ");
+    t.put_decimal(d.found);
+    t.push(b'\n');
 }
 
-fn put_counts(t: Text, group: Group, c: Comparison) -> Text
-    ensures { result ≡ appended t (counts_line group c) }
+#[tactic(auto, unfolding(text::specs::Text::appended))]
+fn put_first(t: &mut Text, group: Group, s: &[u8], first: Option<Difference>)
+    ensures { t.new ≡ appended t.old (difference_lines group s.now first) }
 {
-    let vectors = text::put_decimal(text::put(put_title(t, group), b": "), c.vectors);
-    let agree = text::put_decimal(text::put(vectors, b" vectors, "), c.agree);
-    text::put(agree, b" agree\n")
-}
-
-fn put_damage(t: Text, group: Group) -> Text
-    ensures { result ≡ appended t (damage_line group) }
-{
-    text::put(
-        put_title(t, group),
-        b": the data file is damaged after these\n",
-    )
-}
-
-fn with_difference(group: Group, s: &[u8], d: Difference) -> Text
-    ensures { result ≡ appended empty (difference_lines group s.now d) }
-{
-    if d.number == 0 {
-        return text::empty();
+    if let Some(d) = first {
+        put_difference(t, group, s, d);
     }
-    put_difference(text::empty(), group, s, d)
 }
 
-fn lines_for(group: Group, s: &[u8], c: Comparison) -> Text
-    ensures { result ≡ text_of (lines_for group s.now c) }
+#[tactic(auto, using(crate::proofs::Texts::counts_put))]
+fn put_counts(t: &mut Text, group: Group, c: Comparison)
+    ensures { t.new ≡ appended t.old (counts_line group c) }
 {
-    let first = c.first;
-    let t = put_counts(with_difference(group, s, first), group, c);
-    if c.whole {
-        return t;
-    }
-    put_damage(t, group)
+    put_title(t, group);
+    t.put(b": ");
+    t.put_decimal(c.vectors);
+    t.put(b" vectors, ");
+    t.put_decimal(c.agree);
+    t.put(b" agree\n");
+}
+
+fn put_damage(t: &mut Text, group: Group)
+    ensures { t.new ≡ appended t.old (damage_line group) }
+{
+    put_title(t, group);
+    t.put(b": the data file is damaged after these\n");
 }
 
 // The lines of a data file of the group.
 pub fn lines(group: Group, s: &[u8]) -> Text
     ensures { result ≡ text_of (comparison_lines group s.now) }
 {
-    lines_for(group, s, crate::compared(group, s))
+    let c = crate::compared(group, s);
+    let mut t = Text::new();
+    put_first(&mut t, group, s, c.first);
+    put_counts(&mut t, group, c);
+    if !c.whole {
+        put_damage(&mut t, group);
+    }
+    t
 }

@@ -1,25 +1,17 @@
 -- Two numbers compared, with the answer's meaning; and a test that is computed at every number below a bound.
-use mathlib.Core.Path.{◌≡◌, refl}
+use mathlib.Core.Path.{◌≡◌}
 use mathlib.Core.Bool.{Bool, true, false, ◌&&◌}
 use mathlib.Core.Logic.{◌⊎◌, inl, inr}
 use Prim.Native.Nat.{ℕ, zero, suc, ◌≤◌, ◌<◌}
 use native.Mathlib.Omega.{arith}
-use lib.Dec.{T, eqb, eqb→eq, ltb}
-use borrow.Author.Tests.{eqb-true, eqb-false, ltb-true, ltb-false}
+use lib.Dec.{T, eqb, eqb→eq}
+use Rattle.std.proofs.lemmas.Bool.{cases_eq, cases_lt}
 
 pub same_or_other : (m n : ℕ) → (m ≡ n) ⊎ ¬ (m ≡ n)
-same_or_other m n = go (eqb m n) refl
-  where
-    go : (b : Bool) → eqb m n ≡ b → (m ≡ n) ⊎ ¬ (m ≡ n)
-    go true e = inl (eqb-true m n e)
-    go false e = inr (eqb-false m n e)
+same_or_other = cases_eq
 
 pub below_or_above : (m n : ℕ) → (m < n) ⊎ (n ≤ m)
-below_or_above m n = go (ltb m n) refl
-  where
-    go : (b : Bool) → ltb m n ≡ b → (m < n) ⊎ (n ≤ m)
-    go true e = inl (ltb-true m n e)
-    go false e = inr (ltb-false m n e)
+below_or_above = cases_lt
 
 both_hold : (a b : Bool) → T (a && b) → T a × T b
 both_hold true b t = (tt, t)

@@ -1,33 +1,19 @@
 -- The sets of a word that have an action: below 6 the action is in the place's number, and the six patterns are right by a test that is computed; from 6
 -- on it is in the word's number, and all of its sets have it or none.
 use mathlib.Core.Path.{◌≡◌, sym, ap, ◌∙◌}
-use Prim.Native.Nat.{ℕ, zero, suc, ◌+◌, ◌-◌, ◌*◌, ◌/◌, ◌%◌, ◌^◌, ◌≤◌, ◌<◌}
-use native.Mathlib.Nat.{div-eq_of_lt, zero-add}
+use Prim.Native.Nat.{ℕ, ◌+◌, ◌-◌, ◌*◌, ◌^◌, ◌≤◌, ◌<◌}
+use native.Mathlib.Nat.{zero-add}
 use native.Mathlib.Omega.{arith}
-use lib.Bits.{block_half, block_odd}
 use lib.Dec.{T, eqb, eqb→eq}
-use lib.Pow.{pow_mono, shr-shr}
+use lib.Pow.{pow_mono}
+use Rattle.std.proofs.lemmas.Nat.Bits.{bit_at_above, bit_at_cat_low, bit_at_cat_high}
 use Rattle.family.specs.Family.{bit_at, Having}
 use Rattle.family.proofs.Numbers.{every, at_number}
-use Rattle.family.proofs.Bits.{no_bit, bit_up}
+use Rattle.family.proofs.Bits.{no_bit}
 
 -- a number has no bit past its size
 past : (n a : ℕ) → n < 2 ^ a → bit_at n a ≡ 0
-past n a l = ap (λ (m : ℕ). m % 2) (div-eq_of_lt l)
-
--- the bits of a set below 6 are those of its place in the word
-low_bit : (k w i a : ℕ) → a < k → bit_at (w * 2 ^ k + i) a ≡ bit_at i a
-low_bit zero w i a l = absurd (omega arith)
-low_bit (suc k) w i zero l = omega (arith, block_odd w k i)
-low_bit (suc k) w i (suc a) l =
-    bit_up (w * 2 ^ suc k + i) a ∙ ap (λ (n : ℕ). bit_at n a) (block_half w k i) ∙ low_bit k w (i / 2) a (omega arith) ∙ sym (bit_up i a)
-
--- and those from 6 on are the word's
-high_bit : (w i a : ℕ) → i < 64 → 6 ≤ a → bit_at (w * 64 + i) a ≡ bit_at w (a - 6)
-high_bit w i a li l =
-    let e : 6 + (a - 6) ≡ a = omega arith in
-    let d : (w * 64 + i) / 64 ≡ w = omega arith in
-    ap (bit_at (w * 64 + i)) (sym e) ∙ ap (λ (n : ℕ). n % 2) (sym (shr-shr (w * 64 + i) 6 (a - 6))) ∙ ap (λ (n : ℕ). bit_at n (a - 6)) d
+past n a l = bit_at_above n a a l (omega arith)
 
 -- a pattern is right where its 64 bits are
 pub patterned : (word a : ℕ) → T (every 64 (λ i. eqb (bit_at word i) (bit_at (0 * 64 + i) a))) → Having a 0 word
@@ -42,14 +28,14 @@ place_bit {a} h i l = h.bits i l ∙ ap (λ (n : ℕ). bit_at n a) (zero-add i)
 
 module _ (a w : ℕ) where
   pub by_place : (r : ℕ) → a < 6 → Having a 0 r → Having a w r
-  by_place r l h = record { bits = λ i b. place_bit h i b ∙ sym (low_bit 6 w i a l) }
+  by_place r l h = record { bits = λ i b. place_bit h i b ∙ sym (bit_at_cat_low w 6 i a l) }
 
   module _ (l : 6 ≤ a) where
     pub by_word_none : bit_at w (a - 6) ≡ 0 → Having a w 0
-    by_word_none off = record { bits = λ i b. no_bit i ∙ sym (high_bit w i a b l ∙ off) }
+    by_word_none off = record { bits = λ i b. no_bit i ∙ sym (bit_at_cat_high w 6 i a b l ∙ off) }
 
     pub by_word_all : bit_at w (a - 6) ≡ 1 → Having a w 0xffffffffffffffff
-    by_word_all on = record { bits = λ i b. all_set i b ∙ sym (high_bit w i a b l ∙ on) }
+    by_word_all on = record { bits = λ i b. all_set i b ∙ sym (bit_at_cat_high w 6 i a b l ∙ on) }
       where
         all_set : (i : ℕ) → i < 64 → bit_at 0xffffffffffffffff i ≡ 1
         all_set i b = eqb→eq _ _ (at_number 64 (λ i. eqb (bit_at 0xffffffffffffffff i) 1) tt i b)

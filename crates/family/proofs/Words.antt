@@ -3,6 +3,7 @@
 use mathlib.Core.Path.{◌≡◌, refl, sym, ap, ap₂, ◌∙◌, subst}
 use mathlib.Core.Logic.{◌⊎◌, inl, inr}
 use mathlib.Core.List.{List}
+use mathlib.Core.Bool.{Bool, true, false, false≢true}
 use Prim.Native.Nat.{ℕ, ◌+◌, ◌*◌, ◌/◌, ◌%◌, ◌^◌, ◌≤◌, ◌<◌}
 use native.Mathlib.Nat.{mod-lt, div-add-mod'}
 use native.Mathlib.Omega.{arith}
@@ -10,7 +11,9 @@ use borrow.Author.Count.{below_more}
 use lib.Bits.{bit_or}
 use lib.ListN.{length, get_or, set, replicate, get_or-replicate, get_or-eq_default}
 use lib.Seq.{get_or-set_same, get_or-set_other}
-use Rattle.family.specs.Family.{bit_at, has_at, In, Empty, Single, Joined}
+use Rattle.std.specs.Bool.{MatchBool}
+use Rattle.std.specs.List.{AllWithin, HoldsAt}
+use Rattle.family.specs.Family.{bit_at, has_at, In, Empty, Single, TellsEmpty, Joined}
 use Rattle.family.proofs.Numbers.{same_or_other, below_or_above}
 use Rattle.family.proofs.Bits.{bit_small, no_bit, or_left, or_right, or_back, own_bit, only_own_bit, one_shifted, all_clear}
 
@@ -45,6 +48,12 @@ no_sets f sixteen zeros t on = omega (arith, in_range f sixteen t on, zero_word 
 pub no_word : (f : List ℕ) (k : ℕ) → get_or f k 0 < 2 ^ 64 → Empty f → get_or f k 0 ≡ 0
 no_word f k fits none = all_clear 64 (get_or f k 0) fits (λ i l. let d : ¬ (bit_at (get_or f k 0) i ≡ 1) = λ on. none (k * 64 + i) (in_word f k i l on) in omega (arith, bit_small (get_or f k 0) i))
 
+-- whether all words are 0
+pub tells_empty : (f : List ℕ) (r : Bool) → length f ≡ 16 → ((k : ℕ) → get_or f k 0 < 2 ^ 64)
+    → MatchBool r (AllWithin (λ w. w ≡ 0) f 0 (length f)) ((k : ℕ) × (k < length f) × HoldsAt (λ w. ¬ (w ≡ 0)) f k) → TellsEmpty f r
+tells_empty f true sixteen fits all = record { sound = λ e. no_sets f sixteen (λ k l. all k 0 (omega arith) (omega arith)); complete = λ none. refl }
+tells_empty f false sixteen fits some = record { sound = λ e. absurd (false≢true e); complete = λ none. absurd (some.2 0 (no_word f some.0 (fits some.0) none)) }
+
 pub none_empty : Empty (replicate 16 0)
 none_empty = no_sets (replicate 16 0) refl (λ k l. get_or-replicate 16 k 0 0 l)
 
@@ -62,24 +71,24 @@ module _ (f : List ℕ) (q v : ℕ) (l : q < length f) (t : ℕ) where
   pub stored_other : ¬ (t / 64 ≡ q) → In f t → In (set f q v) t
   stored_other d on = ap (λ (w : ℕ). bit_at w (t % 64)) (get_or-set_other f q (t / 64) v 0 d) ∙ on
 
--- the bit of s stored in its word: s alone
-module _ (s : ℕ) (small : s < 1024) where
+-- the bit of s stored in its word of a family with no set: s alone
+module _ (f : List ℕ) (sixteen : length f ≡ 16) (none : Empty f) (s : ℕ) (small : s < 1024) where
   abbrev own_word : ℕ
   own_word = 1 * 2 ^ (s % 64) % 2 ^ 64
 
   own : own_word ≡ 2 ^ (s % 64)
   own = one_shifted (s % 64) (low_small s)
 
-  fits : s / 64 < 16
+  fits : s / 64 < length f
   fits = omega arith
 
-  pub single_word : Single s (set (replicate 16 0) (s / 64) own_word)
+  pub single_word : Single s (set f (s / 64) own_word)
   single_word = record {
-    sound = λ t on. elim (stored_back (replicate 16 0) (s / 64) own_word fits t on) [
+    sound = λ t on. elim (stored_back f (s / 64) own_word fits t on) [
       | inl x ↦ (omega (arith, only_own_bit (t % 64) (s % 64) (rw own at x.1), x.0), small)
-      | inr x ↦ absurd (none_empty t x.1)
+      | inr x ↦ absurd (none t x.1)
     ];
-    complete = λ l. stored_here (replicate 16 0) (s / 64) own_word fits s refl (rw own (own_bit (s % 64)));
+    complete = λ l. stored_here f (s / 64) own_word fits s refl (rw own (own_bit (s % 64)));
   }
 
 -- a loop that stores g i at i

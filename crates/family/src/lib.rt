@@ -8,18 +8,17 @@ ghost use Rattle.family.specs.Family.{Empty, Single, Joined, TellsEmpty, Having}
 pub fn empty() -> [u64; 16]
     ensures { Empty result }
 {
-    [0u64; 16]
+    [0; 16]
 }
 
 // The family of the set s alone; of no set where s is 1,024 or more.
 pub fn single(s: usize) -> [u64; 16]
     ensures { Single s result }
 {
-    let mut r = [0u64; 16];
-    if 1024 <= s {
-        return r;
+    let mut r = empty();
+    if s < 1024 {
+        r[s / 64] = 1 << (s % 64);
     }
-    r[s / 64] = 1 << (s % 64);
     r
 }
 
@@ -27,26 +26,24 @@ pub fn single(s: usize) -> [u64; 16]
 pub fn is_empty(f: [u64; 16]) -> bool
     ensures { TellsEmpty f result }
 {
-    let mut i = 0;
-    while i < 16 {
-        if f[i] != 0 {
-            return false;
-        }
-        i += 1;
+    f.iter().all(|&w| w == 0)
+}
+
+// Adds the sets of f to a family.
+pub fn add(to: &mut [u64; 16], f: [u64; 16])
+    ensures { Joined to.old f to.new }
+{
+    for i in 0..16 {
+        to[i] |= f[i];
     }
-    true
 }
 
 // The sets of a and those of b.
 pub fn join(a: [u64; 16], b: [u64; 16]) -> [u64; 16]
     ensures { Joined a b result }
 {
-    let mut r = [0u64; 16];
-    let mut i = 0;
-    while i < 16 {
-        r[i] = a[i] | b[i];
-        i += 1;
-    }
+    let mut r = a;
+    add(&mut r, b);
     r
 }
 
@@ -73,11 +70,9 @@ pub fn having(action: usize, w: usize) -> u64
         return pattern(action);
     }
     let high = action - 6;
-    if 64 <= high {
-        return 0;
+    if high < 64 && (w >> high) % 2 == 1 {
+        u64::MAX
+    } else {
+        0
     }
-    if (w >> high) % 2 == 1 {
-        return 0xffffffffffffffff;
-    }
-    0
 }

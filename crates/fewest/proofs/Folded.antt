@@ -1,4 +1,4 @@
--- The fold over the nodes of a plan is the fold over its process; a composite's costs by the lent rows are those by the cells of its form.
+-- The fold over the nodes of a plan is the fold over its process; a composite's costs by its form's number are those by its form.
 use mathlib.Core.Path.{◌≡◌, refl, sym}
 use mathlib.Core.Bool.{Bool, true, false, cond}
 use mathlib.Core.List.{List, []}
@@ -7,8 +7,6 @@ use lib.Dec.{ltb}
 use borrow.Author.Tests.{ltb-false}
 use Rattle.process.specs.Forms.{form_number, form_of}
 use Rattle.outcomes.specs.ThreeLevels.{cell3}
-use Rattle.outcomes.specs.Rows.{rows, cell_in3}
-use Rattle.outcomes.proofs.InRows.{cell_in_rows}
 use Rattle.nodes.specs.Nodes.{count, form}
 use Rattle.nodes.specs.Fold.{fold_at}
 use Rattle.nodes.proofs.Fold.{fold_map}
@@ -33,10 +31,10 @@ module _ (may : ℕ → Wish) (types b : List ℕ) where
   pub folded : (i : ℕ) → fold_at leaf_costs_at node_costs_at b i ≡ costs_of may (process_at types b i)
   folded i = sym (fold_map (costs_of may) (leaf_of types b) (composite_of b) leaf_costs_at node_costs_at b (λ i. refl) (λ i P Q. refl) (suc i) i)
 
-  pub by_rows : {action_limit : ℕ} → RunnableWithin action_limit types b → (table : List ℕ) → table ≡ rows → (i : ℕ) → i < count b → (x y : Costs)
-      → cond (ltb (form b i) 3) (leaf_costs_at i) (node_costs (cell_in3 table (form b i)) x y 15) ≡ cond (ltb (form b i) 3) (leaf_costs_at i) (node_costs_at i x y)
-  by_rows r table e i c x y = go (ltb (form b i) 3) refl
+  pub by_form : {action_limit : ℕ} → RunnableWithin action_limit types b → (i : ℕ) → i < count b → (x y : Costs)
+      → cond (ltb (form b i) 3) (leaf_costs_at i) (node_costs (cell3 (form b i)) x y 15) ≡ cond (ltb (form b i) 3) (leaf_costs_at i) (node_costs_at i x y)
+  by_form r i c x y = go (ltb (form b i) 3) refl
     where
-      go : (t : Bool) → ltb (form b i) 3 ≡ t → cond t (leaf_costs_at i) (node_costs (cell_in3 table (form b i)) x y 15) ≡ cond t (leaf_costs_at i) (node_costs_at i x y)
+      go : (t : Bool) → ltb (form b i) 3 ≡ t → cond t (leaf_costs_at i) (node_costs (cell3 (form b i)) x y 15) ≡ cond t (leaf_costs_at i) (node_costs_at i x y)
       go true h = refl
-      go false h = rw (e, cell_in_rows (form b i), same_number (form b i) (ltb-false _ _ h) (r.nodes_hold.keep i c).known)
+      go false h = rw (same_number (form b i) (ltb-false _ _ h) (r.nodes_hold.keep i c).known)

@@ -13,4 +13,4 @@ pub mod Below
 pub mod Rows
 pub mod Folded
 pub mod Stages
-pub mod Choosing
+pub mod Asked

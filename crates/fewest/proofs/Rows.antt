@@ -1,14 +1,17 @@
 -- A row of the table digit by digit: what is left of it after so many, and that where nothing is left no sum is to be added.
-use mathlib.Core.Path.{◌≡◌, refl}
+use mathlib.Core.Path.{◌≡◌, refl, ap}
 use mathlib.Core.Bool.{Bool, true, false, cond}
 use Prim.Native.Nat.{ℕ, zero, suc, ◌+◌, ◌-◌, ◌*◌, ◌/◌, ◌%◌, ◌^◌, ◌≤◌, ◌<◌}
 use native.Mathlib.Nat.{zero-div}
+use native.Mathlib.Numerals.{add-one}
 use native.Mathlib.Omega.{arith}
 use borrow.Author.Tests.{le-ltb}
 use lib.Dec.{ltb}
 use lib.Pow.{shr-shr}
-use Rattle.outcomes.specs.Rows.{code_of_digit, row_cell}
-use Rattle.fewest.specs.Costs.{with_sum, row_costs}
+use Rattle.outcomes.specs.Rows.{rows, code_of_digit, row_cell, row_in, cell_in3}
+use Rattle.outcomes.specs.ThreeLevels.{cell3}
+use Rattle.outcomes.proofs.InRows.{cell_in_rows}
+use Rattle.fewest.specs.Costs.{unreached, cost_of, with_sum, row_costs, node_costs}
 use Rattle.fewest.specs.declared.Costs.{Costs}
 
 -- the next digit, and the rest after it
@@ -41,3 +44,11 @@ module _ (row k : ℕ) (y z : Costs) (r : ℕ) (e : row / 2 ^ (4 * r) ≡ 0) whe
 
   pub row_over : (n : ℕ) → r ≤ n → row_costs (row_cell row) k y n z ≡ row_costs (row_cell row) k y r z
   row_over n h = passed (n - r) n (omega arith)
+
+-- one left code more of a composite, by its row
+pub node_more : (form l row : ℕ) (x y z : Costs) → row ≡ row_in rows form l → z ≡ node_costs (cell3 form) x y l
+    → cond (ltb (cost_of x l) unreached) (row_costs (row_cell row) (cost_of x l) y 15 z) z ≡ node_costs (cell3 form) x y (l + 1)
+unfolding node_costs cell_in3
+node_more form l row x y z e f =
+    let cells : row_cell (row_in rows form l) ≡ cell3 form l = ap (λ (g : ℕ → ℕ → ℕ). g l) (cell_in_rows form) in
+    rw (add-one l, e, f, cells)

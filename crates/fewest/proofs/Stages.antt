@@ -1,9 +1,8 @@
--- The search step by step: where no action is due the fold decides; a leaf that is tried is free, and then one less is; and leaves that are no candidates change nothing.
+-- The search step by step: where no action is due the fold decides; a leaf that is tried is free, and then one less is.
 use mathlib.Core.Path.{◌≡◌, sym, ◌∙◌}
-use mathlib.Core.Bool.{Bool, true, false, not, cond, ◌&&◌, true≢false}
+use mathlib.Core.Bool.{true, false, not, cond, ◌&&◌, true≢false}
 use mathlib.Core.List.{List, [], ◌∷◌}
-use Prim.Native.Nat.{ℕ, zero, suc, ◌+◌, ◌-◌, ◌≤◌, ◌<◌, min}
-use native.Mathlib.Numerals.{add-one}
+use Prim.Native.Nat.{ℕ, zero, suc, ◌+◌, ◌≤◌, ◌<◌}
 use native.Mathlib.Omega.{arith}
 use borrow.Author.Tests.{eq-eqb, ltb-true, not-true}
 use lib.Dec.{eqb, ltb}
@@ -13,24 +12,8 @@ use Rattle.nodes.specs.Nodes.{count}
 use Rattle.plan.specs.Tree.{process_of}
 use Rattle.fewest.specs.Costs.{fewest_of}
 use Rattle.fewest.specs.Leaving.{outcome_at}
-use Rattle.fewest.specs.Search.{First, wishes, in_set, is_leaf_of, finished, due, candidate, least_where, searched}
+use Rattle.fewest.specs.Search.{wishes, in_set, is_leaf_of, finished, due, candidate, searched}
 use Rattle.fewest.proofs.Below.{any_true}
-
-module _ (test : ℕ → Bool) (x : ℕ → ℕ) where
-  passed_by : (gap a d : ℕ) → gap + a ≡ d → ((i : ℕ) → a ≤ i → i < d → test i ≡ false) → least_where d test x ≡ least_where a test x
-  passed_by zero a d e h = let z : d ≡ a = omega arith in rw z
-  passed_by (suc gap) a zero e h = absurd (omega arith)
-  passed_by (suc gap) a (suc d) e h = rw (h d (omega arith) (omega arith)) (passed_by gap a d (omega arith) (λ i l m. h i l (omega arith)))
-
-  -- up to the first that passes there is nothing new
-  pub least_to : (a bound d : ℕ) → First test a bound d → least_where d test x ≡ least_where a test x
-  least_to a bound d f = passed_by (d - a) a d (omega (arith, f.from)) f.passed
-
-  -- one that passes, and then up to the next
-  pub least_next : (i bound d best found : ℕ) → test i ≡ true → First test (i + 1) bound d → found ≡ min best (least_where i test x) → min found (x i) ≡ min best (least_where d test x)
-  least_next i bound d best found t f e =
-      let n : least_where (i + 1) test x ≡ min (x i) (least_where i test x) = rw (add-one i, t) in
-      rw (least_to (i + 1) bound d f, n, e) (omega arith)
 
 module _ (types b : List ℕ) (S : ℕ) (table : List ℕ) where
   passed_over : (gap n m a d : ℕ) → gap + m ≡ n → gap + a ≡ d → ((i : ℕ) → a ≤ i → i < d → due b S table i ≡ false) → searched types b S n a table ≡ searched types b S m d table

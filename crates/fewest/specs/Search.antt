@@ -1,5 +1,5 @@
 -- How the fewest failed entries of the complete runs that have given outcomes and leave exactly a set are computed.
-use Rattle.std.specs.Prelude.{◌≡◌, Bool, true, false, not, cond, ◌&&◌, ◌||◌, List, ℕ, zero, suc, ◌+◌, ◌/◌, ◌%◌, ◌^◌, ◌≤◌, ◌<◌, min, eqb, ltb, set}
+use Rattle.std.specs.Prelude.{◌≡◌, Bool, true, false, not, cond, ◌&&◌, ◌||◌, List, ℕ, zero, suc, ◌+◌, ◌/◌, ◌%◌, ◌^◌, ◌<◌, min, eqb, ltb, set, Option, None, Some}
 use Rattle.nodes.specs.Nodes.{count, form, left}
 use Rattle.plan.specs.Tree.{process_of}
 use Rattle.fewest.specs.declared.Choice.{Choice}
@@ -20,13 +20,6 @@ wish_of allowed o = record { absent = eqb o 0; finishing = ltb o 2 && allowed; f
 
 abbrev pub wishes : List ℕ → ℕ → List ℕ → ℕ → Wish
 wishes b S table n = wish_of (welcome b S n) (outcome_at table n)
-
--- The first number from a on that passes the test, where it is below the bound; else the bound.
-pub record First (test : ℕ → Bool) (a bound d : ℕ) : Type 0 where
-  pub from : a ≤ d
-  pub low : d ≤ bound
-  pub passed : (i : ℕ) → a ≤ i → i < d → test i ≡ false
-  pub passes : d < bound → test d ≡ true
 
 -- Some number below n passes the test.
 abbrev pub any_below : ℕ → (ℕ → Bool) → Bool
@@ -61,12 +54,16 @@ is_left types b S table a best n = candidate b table a n && ltb (fewest_of (wish
 abbrev pub leaves_left : List ℕ → List ℕ → ℕ → List ℕ → ℕ → ℕ → ℕ
 leaves_left types b S table a best = count_where (count b) (is_left types b S table a best)
 
--- What an action to be tried is: one that is due, where some is; and where its leaves are told to be none, the fold rules them all out.
-pub record Chosen (actions : ℕ) (types b : List ℕ) (S : ℕ) (table : List ℕ) (best : ℕ) (c : Choice) : Type 0 where
-  pub low : c.action ≤ actions
-  pub none : c.action ≡ actions → (i : ℕ) → i < actions → due b S table i ≡ false
-  pub is_due : c.action < actions → due b S table c.action ≡ true
+-- What an action to be tried is: one that is due; and where its leaves are told to be none, the fold rules them all out.
+pub record Tried (actions : ℕ) (types b : List ℕ) (S : ℕ) (table : List ℕ) (best : ℕ) (c : Choice) : Type 0 where
+  pub low : c.action < actions
+  pub is_due : due b S table c.action ≡ true
   pub ruled_out : c.leaves ≡ 0 → leaves_left types b S table c.action best ≡ 0
+
+-- There is one where some action is due.
+abbrev pub Chosen : ℕ → List ℕ → List ℕ → ℕ → List ℕ → ℕ → Option Choice → Type 0
+Chosen actions types b S table best (Some c) = Tried actions types b S table best c
+Chosen actions types b S table best None = (i : ℕ) → i < actions → due b S table i ≡ false
 
 -- The least of the numbers x i, of the i below n that pass the test.
 abbrev pub least_where : ℕ → (ℕ → Bool) → (ℕ → ℕ) → ℕ

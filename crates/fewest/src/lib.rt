@@ -1,25 +1,22 @@
 // The fewest failed entries of the complete runs of a plan that have given outcomes and leave exactly a set: by a fold over the codes of three levels,
 // and for the actions of the set by trying leaves of theirs as ones that must finish, the action with the fewest such leaves first. Sets have up to 24 actions.
-#![tactic(auto)]
+#![tactic(auto, using(plan::proofs::Runnable::few_nodes, plan::proofs::Runnable::some_nodes))]
 
-ghost use Rattle.std.specs.Prelude.{◌≡◌, true, not, cond, ◌&&◌, ◌+◌, ◌≤◌, ◌<◌, min, eqb, ltb, leb, length, set};
-ghost use Rattle.outcomes.specs.Rows.{rows as outcome_rows, code_of_digit, row_cell, cell_in3};
-ghost use Rattle.nodes.specs.Nodes.{count, form, left};
-ghost use Rattle.plan.specs.PlanFile.{RunnableWithin};
+ghost use Rattle.std.specs.Prelude.{◌≡◌, true, not, cond, ◌&&◌, ◌+◌, ◌^◌, ◌≤◌, ◌<◌, min, eqb, ltb, length, set};
+ghost use Rattle.outcomes.specs.Rows.{code_of_digit, row_cell};
+ghost use Rattle.outcomes.specs.ThreeLevels.{cell3};
+ghost use Rattle.nodes.specs.Nodes.{count, form};
 ghost use Rattle.plan.specs.Tree.{leaf_of, process_of};
-ghost use Rattle.fewest.specs.Costs.{unreached, given, leaf_costs, with_sum, row_costs, node_costs, costs_of, final_cost, fewest_of};
+ghost use Rattle.fewest.specs.Costs.{unreached, given};
 ghost use Rattle.fewest.specs.Least.{LeastBelow};
-ghost use Rattle.fewest.specs.Leaving.{most_searched, Searchable, Leaving, outcome_at};
-ghost use Rattle.fewest.specs.Search.{welcome, wish_of, wishes, First, is_leaf_of, finished, due, candidate, count_where, is_left, leaves_left, Chosen, searched};
+ghost use Rattle.fewest.specs.Leaving.{most_searched, Leaving, outcome_at};
+ghost use Rattle.fewest.specs.Search.{welcome, wish_of, wishes, is_leaf_of, finished, due, candidate, count_where, is_left, leaves_left, searched};
 
-// More than any run's failed entries.
+use outcomes::rows::Rows;
+use plan::Process;
+
+// More than any run's failed entries. A number, so that the least of several costs is their `min`.
 pub const NONE: u8 = 64;
-
-// Of a node, for each code the fewest failed entries of its runs under it.
-#[derive(Clone, Copy)]
-pub struct Costs {
-    pub by: [u8; 15],
-}
 
 fn given(may: bool, k: u8) -> u8
     ensures { result ≡ given may k }
@@ -27,163 +24,84 @@ fn given(may: bool, k: u8) -> u8
     if may { k } else { NONE }
 }
 
-// A leaf, by what it may do.
-fn leaf(absent: bool, finishing: bool, failing: bool) -> Costs
-    ensures { result ≡ leaf_costs absent finishing failing }
-{
-    let free = given(absent, 0);
-    let finished = given(finishing, 0);
-    let failed = given(failing, 1);
-    Costs {
-        by: [
-            free, finished, finished, finished, NONE, NONE, NONE, NONE, NONE, failed, failed, NONE,
-            NONE, NONE, NONE,
-        ],
+// Of a node, for each code the fewest failed entries of its runs under it.
+#[derive(Clone, Copy)]
+pub struct Costs {
+    pub by: [u8; 15],
+}
+
+impl Costs {
+    ghost use Rattle.fewest.specs.Costs.{leaf_costs, no_costs, with_sum, row_costs, node_costs, final_cost};
+
+    fn none() -> Self
+        ensures { result ≡ no_costs }
+    {
+        Costs { by: [NONE; 15] }
     }
-}
 
-// The sum of two costs, or the cost found before where that is less.
-fn lesser(left: u8, right: u8, found: u8) -> u8
-    ensures { result ≡ min (left + right) found }
-{
-    let sum = left as u32 + right as u32;
-    if sum < found as u32 {
-        return sum as u8;
+    // A leaf's, by what it may do.
+    fn leaf(absent: bool, finishing: bool, failing: bool) -> Self
+        ensures { result ≡ leaf_costs absent finishing failing }
+    {
+        let free = given(absent, 0);
+        let finished = given(finishing, 0);
+        let failed = given(failing, 1);
+        Costs {
+            by: [
+                free, finished, finished, finished, NONE, NONE, NONE, NONE, NONE, failed, failed,
+                NONE, NONE, NONE, NONE,
+            ],
+        }
     }
-    found
-}
 
-// One sum more under the code that a digit stands for, where it stands for one.
-fn add_sum(digit: u8, left: u8, right: u8, out: &mut [u8; 15])
-    requires { digit < 16 }
-    ensures { record { by = out.new } ≡ with_sum (code_of_digit digit) (left + right) (record { by = out.old }) }
-{
-    if digit == 0 {
-        return;
+    // One sum more under the code that a digit stands for, where it stands for one.
+    fn add_sum(&mut self, digit: u8, left: u8, right: u8)
+        requires { digit < 16 }
+        ensures { self.new ≡ with_sum (code_of_digit digit) (left + right) self.old }
+    {
+        if digit != 0 {
+            let at = usize::from(digit - 1);
+            let found = self.by[at];
+            self.by[at] = left.saturating_add(right).min(found);
+        }
     }
-    let at = (digit - 1) as usize;
-    let k = lesser(left, right, out[at]);
-    out[at] = k;
-}
 
-// The cells of a left code, whose cost is k, as far as their row goes; none where nothing has the code.
-fn add_row(row: u64, k: u8, right: &[u8; 15], out: &mut [u8; 15])
-    ensures { record { by = out.new } ≡ cond (ltb k unreached) (row_costs (row_cell row) k (record { by = right.now }) 15 (record { by = out.old })) (record { by = out.old }) }
-{
-    if NONE <= k {
-        return;
+    // The cells of a left code, whose cost is k, as far as their row goes; none where nothing has the code.
+    fn add_row(&mut self, row: u64, k: u8, right: &Costs)
+        ensures { self.new ≡ cond (ltb k unreached) (row_costs (row_cell row) k right.now 15 self.old) self.old }
+    {
+        if NONE <= k {
+            return;
+        }
+        let mut rest = row;
+        for r in 0..15 {
+            if rest == 0 {
+                return;
+            }
+            self.add_sum((rest % 16) as u8, k, right.by[r]);
+            rest >>= 4;
+        }
     }
-    let mut rest = row;
-    let mut r = 0;
-    while r < 15 && rest != 0 {
-        add_sum((rest % 16) as u8, k, right[r], out);
-        rest >>= 4;
-        r += 1;
+
+    // A composite's, by the rows of its form.
+    fn node(rows: &Rows, form: u8, x: Costs, y: Costs) -> Self
+        ensures { result ≡ node_costs (cell3 form) x y 15 }
+    {
+        let mut costs = Costs::none();
+        for l in 0..15u8 {
+            let row = outcomes::rows::row_in(&rows.by, form, l);
+            costs.add_row(row, x.by[usize::from(l)], &y);
+        }
+        costs
     }
-}
 
-// A composite, by the rows of its form.
-fn node(rows: &[u64; 75], form: u8, x: Costs, y: Costs) -> Costs
-    ensures { result ≡ node_costs (cell_in3 rows.now form) x y 15 }
-{
-    let left = x.by;
-    let right = y.by;
-    let mut by = [NONE; 15];
-    let mut l = 0u8;
-    while l < 15 {
-        let row = outcomes::rows::row_in(rows, form, l);
-        add_row(row, left[l as usize], &right, &mut by);
-        l += 1;
+    // The least of the costs under the codes of complete runs.
+    fn final_cost(self) -> u8
+        ensures { result ≡ final_cost self }
+    {
+        let by = self.by;
+        by[1].min(by[9].min(by[13].min(by[14])))
     }
-    Costs { by }
-}
-
-// Whether a leaf of this type may finish, where the table has this outcome for it; `welcome`: its action is one of the set, or it has none.
-fn may_finish(kind: u8, outcome: u8, welcome: bool) -> bool
-    ensures { result ≡ (not (eqb kind 2) && (ltb outcome 2 && welcome)) }
-{
-    kind != 2 && (outcome < 2 && welcome)
-}
-
-// Whether it may fail.
-fn may_fail(kind: u8, outcome: u8) -> bool
-    ensures { result ≡ (not (eqb kind 1) && not (eqb outcome 1)) }
-{
-    kind != 1 && outcome != 1
-}
-
-// Whether leaf n may finish without leaving an action outside the set.
-fn is_welcome(nodes: &[u8], set: usize, n: usize) -> bool
-    requires { (n < count nodes.now) × (form nodes.now n ≡ 0 → left nodes.now n < most_searched) }
-    ensures { result ≡ welcome nodes.now set n }
-{
-    let x = nodes::node_at(nodes, n);
-    let a = x.left;
-    if x.form == 0 {
-        return (set >> a) % 2 == 1;
-    }
-    true
-}
-
-// The costs of leaf n, for which the table has this outcome.
-fn leaf_at(types: &[u8], nodes: &[u8], set: usize, outcome: u8, n: usize) -> Costs
-    requires { RunnableWithin most_searched types.now nodes.now × (n < count nodes.now) × (form nodes.now n < 3) }
-    ensures { result ≡ costs_of (λ i. wish_of (welcome nodes.now set n) outcome) (leaf_of types.now nodes.now n) }
-{
-    let kind = state::leaf_type(types, nodes, n);
-    let welcome = is_welcome(nodes, set, n);
-    let finishing = may_finish(kind, outcome, welcome);
-    let failing = may_fail(kind, outcome);
-    leaf(outcome == 0, finishing, failing)
-}
-
-// The costs of node i: a leaf's, or a composite's from those of its parts.
-fn costs_at(
-    rows: &[u64; 75],
-    types: &[u8],
-    nodes: &[u8],
-    set: usize,
-    outcome: u8,
-    i: usize,
-    x: Costs,
-    y: Costs,
-) -> Costs
-    requires { RunnableWithin most_searched types.now nodes.now × (i < count nodes.now) }
-    ensures { result ≡ cond (ltb (form nodes.now i) 3) (costs_of (λ n. wish_of (welcome nodes.now set i) outcome) (leaf_of types.now nodes.now i)) (node_costs (cell_in3 rows.now (form nodes.now i)) x y 15) }
-{
-    let form = nodes[3 * i];
-    if form < 3 {
-        return leaf_at(types, nodes, set, outcome, i);
-    }
-    node(rows, form, x, y)
-}
-
-// The least of the costs under the codes of complete runs.
-fn final_cost(x: Costs) -> u8
-    ensures { result ≡ final_cost x }
-{
-    let by = x.by;
-    lesser(by[1], 0, lesser(by[9], 0, lesser(by[13], 0, by[14])))
-}
-
-// The fewest failed entries of a complete run that has the outcomes of the table and finishes no action outside the set.
-fn fold(rows: &[u64; 75], types: &[u8], nodes: &[u8], set: usize, table: &[u8; 63]) -> u8
-    requires { RunnableWithin most_searched types.now nodes.now × (rows.now ≡ outcome_rows) }
-    ensures { result ≡ fewest_of (wishes nodes.now set table.now) (process_of types.now nodes.now) }
-{
-    let none = Costs { by: [NONE; 15] };
-    let n = nodes.len() / 3;
-    let mut costs = [none; 63];
-    let mut i = 0;
-    while i < n {
-        let x = nodes::node_at(nodes, i);
-        let l = x.left;
-        let r = x.right;
-        let v = costs_at(rows, types, nodes, set, table[i], i, costs[l], costs[r]);
-        costs[i] = v;
-        i += 1;
-    }
-    final_cost(costs[n - 1])
 }
 
 // Whether node n is a leaf of the action a.
@@ -193,77 +111,6 @@ fn is_leaf_of(nodes: &[u8], a: usize, n: usize) -> bool
 {
     let x = nodes::node_at(nodes, n);
     x.form == 0 && x.left == a
-}
-
-// Whether by the table node n is a leaf of the action a that has finished.
-fn has_finished(nodes: &[u8], table: &[u8; 63], a: usize, n: usize) -> bool
-    requires { (n < count nodes.now) × (length nodes.now ≤ 189) }
-    ensures { result ≡ (is_leaf_of nodes.now a n && eqb (outcome_at table.now n) 1) }
-{
-    is_leaf_of(nodes, a, n) && table[n] == 1
-}
-
-// Whether by the table the action a has finished at some leaf.
-fn is_finished(nodes: &[u8], table: &[u8; 63], a: usize) -> bool
-    requires { length nodes.now ≤ 189 }
-    ensures { result ≡ finished nodes.now table.now a }
-{
-    let n = nodes.len() / 3;
-    let mut i = 0;
-    while i < n {
-        if has_finished(nodes, table, a, i) {
-            return true;
-        }
-        i += 1;
-    }
-    false
-}
-
-// Whether the action a is one of the set's, and by the table has finished at no leaf.
-fn is_due(nodes: &[u8], set: usize, table: &[u8; 63], a: usize) -> bool
-    requires { (length nodes.now ≤ 189) × (a < most_searched) }
-    ensures { result ≡ due nodes.now set table.now a }
-{
-    (set >> a) % 2 == 1 && !is_finished(nodes, table, a)
-}
-
-// The first action from a on that is due; `actions` where none of them is.
-fn next_due(nodes: &[u8], set: usize, table: &[u8; 63], a: usize, actions: usize) -> usize
-    requires { (length nodes.now ≤ 189) × (a ≤ actions) × (actions ≤ most_searched) }
-    ensures { First (due nodes.now set table.now) a actions result }
-{
-    let mut i = a;
-    while i < actions {
-        if is_due(nodes, set, table, i) {
-            return i;
-        }
-        i += 1;
-    }
-    i
-}
-
-// Whether node n is a leaf of the action a that may be one that must finish.
-fn is_candidate(nodes: &[u8], table: &[u8; 63], a: usize, n: usize) -> bool
-    requires { (n < count nodes.now) × (length nodes.now ≤ 189) }
-    ensures { result ≡ candidate nodes.now table.now a n }
-{
-    is_leaf_of(nodes, a, n) && table[n] < 2
-}
-
-// The first of these from node n on; the number of nodes where there is none.
-fn next_candidate(nodes: &[u8], table: &[u8; 63], a: usize, n: usize) -> usize
-    requires { (n ≤ count nodes.now) × (length nodes.now ≤ 189) }
-    ensures { First (candidate nodes.now table.now a) n (count nodes.now) result }
-{
-    let end = nodes.len() / 3;
-    let mut i = n;
-    while i < end {
-        if is_candidate(nodes, table, a, i) {
-            return i;
-        }
-        i += 1;
-    }
-    i
 }
 
 // The table in which leaf n must have finished.
@@ -276,215 +123,187 @@ fn with_finished(table: &[u8; 63], n: usize) -> [u8; 63]
     t
 }
 
-fn one_if(test: bool) -> usize
-    ensures { result ≡ cond test 1 0 }
-{
-    if test { 1 } else { 0 }
-}
-
-// How many candidates the action a has.
-fn candidates(nodes: &[u8], table: &[u8; 63], a: usize) -> usize
-    requires { length nodes.now ≤ 189 }
-    ensures { result ≡ count_where (count nodes.now) (candidate nodes.now table.now a) }
-{
-    let n = nodes.len() / 3;
-    let mut many = 0;
-    let mut i = 0;
-    while i < n {
-        many += one_if(is_candidate(nodes, table, a, i));
-        i += 1;
-    }
-    many
-}
-
-// Whether node n is a candidate of the action a that the fold does not rule out.
-fn is_left(
-    rows: &[u64; 75],
-    types: &[u8],
-    nodes: &[u8],
-    set: usize,
-    table: &[u8; 63],
-    a: usize,
-    best: u8,
-    n: usize,
-) -> bool
-    requires { RunnableWithin most_searched types.now nodes.now × (rows.now ≡ outcome_rows) × (n < count nodes.now) }
-    ensures { result ≡ is_left types.now nodes.now set table.now a best n }
-{
-    if !is_candidate(nodes, table, a, n) {
-        return false;
-    }
-    let t = with_finished(table, n);
-    fold(rows, types, nodes, set, &t) < best
-}
-
-// How many of these there are.
-fn leaves_left(
-    rows: &[u64; 75],
-    types: &[u8],
-    nodes: &[u8],
-    set: usize,
-    table: &[u8; 63],
-    a: usize,
-    best: u8,
-) -> usize
-    requires { RunnableWithin most_searched types.now nodes.now × (rows.now ≡ outcome_rows) }
-    ensures { result ≡ leaves_left types.now nodes.now set table.now a best }
-{
-    let n = nodes.len() / 3;
-    let mut many = 0;
-    let mut i = 0;
-    while i < n {
-        many += one_if(is_left(rows, types, nodes, set, table, a, best, i));
-        i += 1;
-    }
-    many
-}
-
 // An action to be tried, and how many leaves of it are left.
-#[derive(Drop)]
+#[derive(Clone, Copy)]
 pub struct Choice {
     pub action: usize,
     pub leaves: usize,
 }
 
-// The choice with fewer leaves: the first where they have as many.
-fn fewer(c: Choice, action: usize, leaves: usize) -> Choice
-    ensures { result ≡ cond (ltb leaves c.leaves) (record { action = action; leaves = leaves }) c }
-{
-    if leaves < c.leaves {
-        return Choice { action, leaves };
-    }
-    c
+// What is searched: a plan, and a set of its first `actions` actions. The rows of the chart are lent. Of a table's leaf: 0 it is free, 1 it must have finished, 2 it must have failed.
+#[derive(Clone, Copy)]
+pub struct Search<'a> {
+    pub rows: &'a Rows,
+    pub process: Process<'a, 24>,
+    pub actions: usize,
+    pub set: usize,
+    ghost few: { actions ≤ most_searched },
+    ghost within: { set < 2 ^ actions },
 }
 
-// The action that is due with the fewest leaves left.
-fn fewest_left(
-    rows: &[u64; 75],
-    types: &[u8],
-    nodes: &[u8],
-    set: usize,
-    actions: usize,
-    table: &[u8; 63],
-    best: u8,
-) -> Choice
-    requires { RunnableWithin most_searched types.now nodes.now × (rows.now ≡ outcome_rows) × (actions ≤ most_searched) }
-    ensures { Chosen actions types.now nodes.now set table.now best result }
-{
-    let mut c = Choice {
-        action: actions,
-        leaves: 64,
-    };
-    let mut a = next_due(nodes, set, table, 0, actions);
-    while a < actions {
-        let k = leaves_left(rows, types, nodes, set, table, a, best);
-        c = fewer(c, a, k);
-        a = next_due(nodes, set, table, a + 1, actions);
-    }
-    c
-}
+impl<'a> Search<'a> {
+    ghost use Rattle.fewest.specs.Costs.{node_costs, costs_of, fewest_of};
+    ghost use Rattle.fewest.specs.Search.{Chosen};
 
-// The first action that is due and has one candidate, or none; `actions` where each has more.
-fn first_single(nodes: &[u8], set: usize, actions: usize, table: &[u8; 63]) -> usize
-    requires { (length nodes.now ≤ 189) × (actions ≤ most_searched) }
-    ensures { (result ≤ actions) × (result < actions → due nodes.now set table.now result ≡ true) }
-{
-    let mut a = next_due(nodes, set, table, 0, actions);
-    while a < actions {
-        if candidates(nodes, table, a) < 2 {
-            return a;
+    // Whether leaf n may finish without leaving an action outside the set.
+    #[tactic(auto, using(plan::proofs::Runnable::few_nodes, state::proofs::Sides::left_low))]
+    fn is_welcome(&self, n: usize) -> bool
+        requires { n < count self.now.process.nodes.now }
+        ensures { result ≡ welcome self.now.process.nodes.now self.now.set n }
+    {
+        let x = nodes::node_at(self.process.nodes, n);
+        x.form != 0 || (self.set >> x.left) % 2 == 1
+    }
+
+    // The costs of leaf n, for which the table has this outcome.
+    fn leaf_at(&self, outcome: u8, n: usize) -> Costs
+        requires { (n < count self.now.process.nodes.now) × (form self.now.process.nodes.now n < 3) }
+        ensures { result ≡ costs_of (λ i. wish_of (welcome self.now.process.nodes.now self.now.set n) outcome) (leaf_of self.now.process.types.now self.now.process.nodes.now n) }
+    {
+        let kind = state::leaf_type(self.process.types, self.process.nodes, n);
+        let finishing = kind != 2 && outcome < 2 && self.is_welcome(n);
+        let failing = kind != 1 && outcome != 1;
+        Costs::leaf(outcome == 0, finishing, failing)
+    }
+
+    // The costs of node i: a leaf's, or a composite's from those of its parts.
+    fn costs_at(&self, outcome: u8, i: usize, x: Costs, y: Costs) -> Costs
+        requires { i < count self.now.process.nodes.now }
+        ensures { result ≡ cond (ltb (form self.now.process.nodes.now i) 3) (costs_of (λ n. wish_of (welcome self.now.process.nodes.now self.now.set i) outcome) (leaf_of self.now.process.types.now self.now.process.nodes.now i)) (node_costs (cell3 (form self.now.process.nodes.now i)) x y 15) }
+    {
+        let form = self.process.nodes[3 * i];
+        if form < 3 {
+            self.leaf_at(outcome, i)
+        } else {
+            Costs::node(self.rows, form, x, y)
         }
-        a = next_due(nodes, set, table, a + 1, actions);
     }
-    a
-}
 
-// The action to be tried next: one that leaves no choice, for which no fold is needed; else that with the fewest leaves left.
-fn choose(
-    rows: &[u64; 75],
-    types: &[u8],
-    nodes: &[u8],
-    set: usize,
-    actions: usize,
-    table: &[u8; 63],
-    best: u8,
-) -> Choice
-    requires { RunnableWithin most_searched types.now nodes.now × (rows.now ≡ outcome_rows) × (actions ≤ most_searched) }
-    ensures { Chosen actions types.now nodes.now set table.now best result }
-{
-    let action = first_single(nodes, set, actions, table);
-    if action < actions {
-        return Choice { action, leaves: 1 };
+    #[tactic(auto, using(plan::proofs::Runnable::few_nodes, plan::proofs::Runnable::some_nodes, state::proofs::Sides::left_low, state::proofs::Sides::right_low))]
+    // The fewest failed entries of a complete run that has the outcomes of the table and finishes no action outside the set.
+    fn fold(&self, table: &[u8; 63]) -> u8
+        ensures { result ≡ fewest_of (wishes self.now.process.nodes.now self.now.set table.now) (process_of self.now.process.types.now self.now.process.nodes.now) }
+    {
+        let nodes = self.process.nodes;
+        let n = nodes.len() / 3;
+        let mut costs = [Costs::none(); 63];
+        for i in 0..n {
+            let x = nodes::node_at(nodes, i);
+            costs[i] = self.costs_at(table[i], i, costs[x.left], costs[x.right]);
+        }
+        costs[n - 1].final_cost()
     }
-    fewest_left(rows, types, nodes, set, actions, table, best)
-}
 
-// Whether the fold rules out the table. It is asked only where another one might do.
-fn is_cut(
-    rows: &[u64; 75],
-    types: &[u8],
-    nodes: &[u8],
-    set: usize,
-    table: &[u8; 63],
-    other: bool,
-    best: u8,
-) -> bool
-    requires { RunnableWithin most_searched types.now nodes.now × (rows.now ≡ outcome_rows) }
-    ensures { result ≡ (other && leb best (fewest_of (wishes nodes.now set table.now) (process_of types.now nodes.now))) }
-{
-    other && best <= fold(rows, types, nodes, set, table)
-}
+    // Whether by the table node n is a leaf of the action a that has finished.
+    fn has_finished(&self, table: &[u8; 63], a: usize, n: usize) -> bool
+        requires { n < count self.now.process.nodes.now }
+        ensures { result ≡ (is_leaf_of self.now.process.nodes.now a n && eqb (outcome_at table.now n) 1) }
+    {
+        is_leaf_of(self.process.nodes, a, n) && table[n] == 1
+    }
 
-// The fewest failed entries of a run in which each action of the set finishes, where it is below `best`; else `best`. `other`: this table is one of several.
-fn search(
-    rows: &[u64; 75],
-    types: &[u8],
-    nodes: &[u8],
-    set: usize,
-    actions: usize,
-    table: &[u8; 63],
-    other: bool,
-    best: u8,
-) -> u8
-    requires { Searchable actions types.now nodes.now set × (rows.now ≡ outcome_rows) × (best ≤ unreached) × (length table.now ≡ 63) }
-    ensures { result ≡ min best (searched types.now nodes.now set actions 0 table.now) }
-{
-    if is_cut(rows, types, nodes, set, table, other, best) {
-        return best;
+    // Whether by the table the action a has finished at some leaf.
+    fn is_finished(&self, table: &[u8; 63], a: usize) -> bool
+        ensures { result ≡ finished self.now.process.nodes.now table.now a }
+    {
+        (0..self.process.nodes.len() / 3).any(|n| self.has_finished(table, a, n))
     }
-    let c = choose(rows, types, nodes, set, actions, table, best);
-    let a = c.action;
-    if a == actions {
-        return lesser(fold(rows, types, nodes, set, table), 0, best);
-    }
-    if c.leaves == 0 {
-        return best;
-    }
-    let several = 1 < candidates(nodes, table, a);
-    let n = nodes.len() / 3;
-    let mut found = best;
-    let mut i = next_candidate(nodes, table, a, 0);
-    while i < n {
-        let t = with_finished(table, i);
-        found = search(rows, types, nodes, set, actions, &t, several, found);
-        i = next_candidate(nodes, table, a, i + 1);
-    }
-    found
-}
 
-// The fewest failed entries of a complete run of the plan that has the outcomes of the table and leaves exactly the set, where there is one with fewer than `most`; else `most`.
-// The set is one of the first `actions` actions. Of a table's leaf: 0 it is free, 1 it must have finished, 2 it must have failed.
-pub fn fewest(
-    rows: &[u64; 75],
-    types: &[u8],
-    nodes: &[u8],
-    actions: usize,
-    set: usize,
-    table: [u8; 63],
-    most: u8,
-) -> u8
-    requires { Searchable actions types.now nodes.now set × (rows.now ≡ outcome_rows) × (most ≤ unreached) }
-    ensures { LeastBelow most (Leaving types.now nodes.now set table) result }
-{
-    search(rows, types, nodes, set, actions, &table, false, most)
+    // Whether the action a is one of the set's, and by the table has finished at no leaf.
+    fn is_due(&self, table: &[u8; 63], a: usize) -> bool
+        requires { a < most_searched }
+        ensures { result ≡ due self.now.process.nodes.now self.now.set table.now a }
+    {
+        (self.set >> a) % 2 == 1 && !self.is_finished(table, a)
+    }
+
+    // Whether node n is a leaf of the action a that may be one that must finish.
+    fn is_candidate(&self, table: &[u8; 63], a: usize, n: usize) -> bool
+        requires { n < count self.now.process.nodes.now }
+        ensures { result ≡ candidate self.now.process.nodes.now table.now a n }
+    {
+        is_leaf_of(self.process.nodes, a, n) && table[n] < 2
+    }
+
+    // How many candidates the action a has.
+    fn candidates(&self, table: &[u8; 63], a: usize) -> usize
+        ensures { result ≡ count_where (count self.now.process.nodes.now) (candidate self.now.process.nodes.now table.now a) }
+    {
+        (0..self.process.nodes.len() / 3)
+            .filter(|&n| self.is_candidate(table, a, n))
+            .count()
+    }
+
+    // Whether node n is a candidate of the action a that the fold does not rule out.
+    fn is_left(&self, table: &[u8; 63], a: usize, best: u8, n: usize) -> bool
+        requires { n < count self.now.process.nodes.now }
+        ensures { result ≡ is_left self.now.process.types.now self.now.process.nodes.now self.now.set table.now a best n }
+    {
+        self.is_candidate(table, a, n) && self.fold(&with_finished(table, n)) < best
+    }
+
+    // How many of these there are.
+    fn leaves_left(&self, table: &[u8; 63], a: usize, best: u8) -> usize
+        ensures { result ≡ leaves_left self.now.process.types.now self.now.process.nodes.now self.now.set table.now a best }
+    {
+        (0..self.process.nodes.len() / 3)
+            .filter(|&n| self.is_left(table, a, best, n))
+            .count()
+    }
+
+    // The action to be tried next: the first that leaves no choice, for which no fold is needed; else that with the fewest leaves left, the first where several have as many.
+    // None where no action is due.
+    fn choose(&self, table: &[u8; 63], best: u8) -> Option<Choice>
+        ensures { Chosen self.now.actions self.now.process.types.now self.now.process.nodes.now self.now.set table.now best result }
+    {
+        let single = (0..self.actions).find(|&a| self.is_due(table, a)
+            && self.candidates(table, a) < 2);
+        if let Some(action) = single {
+            return Some(Choice { action, leaves: 1 });
+        }
+        let mut choice: Option<Choice> = None;
+        for action in 0..self.actions {
+            if self.is_due(table, action) {
+                let leaves = self.leaves_left(table, action, best);
+                match choice {
+                    Some(c) if c.leaves <= leaves => {}
+                    _ => choice = Some(Choice { action, leaves }),
+                }
+            }
+        }
+        choice
+    }
+
+    // The fewest failed entries of a run in which each action of the set finishes, where it is below `best`; else `best`. `other`: this table is one of several, so that the fold may
+    // rule it out.
+    fn search(&self, table: &[u8; 63], other: bool, best: u8) -> u8
+        requires { best ≤ unreached }
+        ensures { result ≡ min best (searched self.now.process.types.now self.now.process.nodes.now self.now.set self.now.actions 0 table.now) }
+    {
+        if other && best <= self.fold(table) {
+            return best;
+        }
+        let Some(choice) = self.choose(table, best) else {
+            return self.fold(table).min(best);
+        };
+        if choice.leaves == 0 {
+            return best;
+        }
+        let several = 1 < self.candidates(table, choice.action);
+        let mut found = best;
+        for n in 0..self.process.nodes.len() / 3 {
+            if self.is_candidate(table, choice.action, n) {
+                found = self.search(&with_finished(table, n), several, found);
+            }
+        }
+        found
+    }
+
+    // The fewest failed entries of a complete run of the plan that has the outcomes of the table and leaves exactly the set, where there is one with fewer than `most`; else `most`.
+    pub fn fewest(&self, table: [u8; 63], most: u8) -> u8
+        requires { most ≤ unreached }
+        ensures { LeastBelow most (Leaving self.now.process.types.now self.now.process.nodes.now self.now.set table) result }
+    {
+        self.search(&table, false, most)
+    }
 }

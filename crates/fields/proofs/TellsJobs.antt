@@ -1,9 +1,11 @@
 -- The test of two jobs tells exactly those that are equal, part by part.
-use mathlib.Core.Bool.{Bool, true, false, beq}
+use mathlib.Core.Bool.{Bool, true, false, beq, ◌&&◌}
 use mathlib.Core.List.{List}
-use mathlib.Core.Path.{◌≡◌, refl, sym}
+use mathlib.Core.Path.{◌≡◌, refl, sym, subst, ◌∙◌}
 use Prim.Native.Nat.{ℕ}
 use lib.ListN.{length, get_or}
+use lib.Dec.{eqb}
+use lib.Pointwise.{pointwise, bytes_decides}
 use lib.Seq.{ext_get_or}
 use borrow.Author.Tests.{eqb-true, eq-eqb}
 use Rattle.blocks.proofs.Bounded.{both_true, both_hold, every_at, every_all}
@@ -41,6 +43,17 @@ beq_each : (a : Bool) → beq a a ≡ true
 beq_each true = refl
 beq_each false = refl
 
+-- jobs are equal where their parts are
+same_parts : (a b : Job) → a.timed ≡ b.timed → a.minute ≡ b.minute
+    → a.file ≡ b.file → a.file_len ≡ b.file_len → a.entries ≡ b.entries → a.taken ≡ b.taken
+    → a.windows ≡ b.windows → a.windows_len ≡ b.windows_len → a ≡ b
+same_parts a b t m f fl e n w wl =
+    let whole : ◌≡◌ {A = Job}
+    (record { file = a.file; file_len = a.file_len; entries = a.entries; taken = a.taken; timed = a.timed; windows = a.windows; windows_len = a.windows_len; minute = a.minute })
+    (record { file = b.file; file_len = b.file_len; entries = b.entries; taken = b.taken; timed = b.timed; windows = b.windows; windows_len = b.windows_len; minute = b.minute }) =
+    rw (t, m, f, fl, e, n, w, wl) in
+    whole
+
 job_only : (a b : Job) → same_job a b ≡ true → a ≡ b
 unfolding same_job
 job_only a b h =
@@ -51,17 +64,7 @@ job_only a b h =
     let (file, file_len) = area_only _ _ _ _ plans in
     let (entries, taken) = area_only _ _ _ _ records in
     let (windows, windows_len) = area_only _ _ _ _ hours in
-    same (beq_only _ _ timed) (eqb-true _ _ minutes) file file_len entries taken windows windows_len
-  where
-    same : a.timed ≡ b.timed → a.minute ≡ b.minute
-        → a.file ≡ b.file → a.file_len ≡ b.file_len → a.entries ≡ b.entries → a.taken ≡ b.taken
-        → a.windows ≡ b.windows → a.windows_len ≡ b.windows_len → a ≡ b
-    same t m f fl e n w wl =
-        let whole : ◌≡◌ {A = Job}
-        (record { file = a.file; file_len = a.file_len; entries = a.entries; taken = a.taken; timed = a.timed; windows = a.windows; windows_len = a.windows_len; minute = a.minute })
-        (record { file = b.file; file_len = b.file_len; entries = b.entries; taken = b.taken; timed = b.timed; windows = b.windows; windows_len = b.windows_len; minute = b.minute }) =
-        rw (t, m, f, fl, e, n, w, wl) in
-        whole
+    same_parts a b (beq_only _ _ timed) (eqb-true _ _ minutes) file file_len entries taken windows windows_len
 
 job_each : (a b : Job) → a ≡ b → same_job a b ≡ true
 unfolding same_job
@@ -70,3 +73,46 @@ job_each a b e =
 
 pub tells_jobs : TellsJobs
 tells_jobs = record { tells = λ a b. (job_only a b, job_each a b) }
+
+-- what the derived comparison of two jobs computes
+abbrev pub derived : Job → Job → Bool
+derived a b =
+    pointwise eqb a.file b.file
+    && (eqb a.file_len b.file_len
+    && (pointwise eqb a.entries b.entries
+    && (eqb a.taken b.taken
+    && (beq a.timed b.timed && (pointwise eqb a.windows b.windows && (eqb a.windows_len b.windows_len && eqb a.minute b.minute))))))
+
+derived_only : (a b : Job) → derived a b ≡ true → a ≡ b
+derived_only a b h =
+    let (file, h1) = both_hold _ _ h in
+    let (file_len, h2) = both_hold _ _ h1 in
+    let (entries, h3) = both_hold _ _ h2 in
+    let (taken, h4) = both_hold _ _ h3 in
+    let (timed, h5) = both_hold _ _ h4 in
+    let (windows, h6) = both_hold _ _ h5 in
+    let (windows_len, minute) = both_hold _ _ h6 in
+    same_parts a b (beq_only _ _ timed) (eqb-true _ _ minute) ((bytes_decides _ _).0 file) (eqb-true _ _ file_len) ((bytes_decides _ _).0 entries) (eqb-true _ _ taken)
+    ((bytes_decides _ _).0 windows) (eqb-true _ _ windows_len)
+
+derived_each : (b : Job) → derived b b ≡ true
+derived_each b =
+    rw (
+      (bytes_decides b.file b.file).1 refl,
+      eq-eqb b.file_len b.file_len refl,
+      (bytes_decides b.entries b.entries).1 refl,
+      eq-eqb b.taken b.taken refl,
+      beq_each b.timed,
+      (bytes_decides b.windows b.windows).1 refl,
+      eq-eqb b.windows_len b.windows_len refl,
+    ) (eq-eqb b.minute b.minute refl)
+
+-- it is the test
+pub derived_same : (a b : Job) (r : Bool) → r ≡ derived a b → r ≡ same_job a b
+derived_same a b r is = is ∙ go (derived a b) (same_job a b) refl refl
+  where
+    go : (x y : Bool) → derived a b ≡ x → same_job a b ≡ y → x ≡ y
+    go true true e f = refl
+    go false false e f = refl
+    go true false e f = sym (job_each a b (derived_only a b e)) ∙ f
+    go false true e f = sym e ∙ subst (λ (j : Job). derived a j ≡ true) (job_only a b f) (derived_each a)

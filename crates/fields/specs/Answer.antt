@@ -2,8 +2,8 @@
 -- and the end. A refusal has its own number and no leaves; what is told has the number 0.
 use Rattle.std.specs.Prelude.{Bool, false, cond, List, ℕ, ◌+◌, eqb, get_or}
 use Rattle.std.proofs.Math.Option
+use Rattle.job.specs.Job.{Answer}
 use Rattle.job.specs.Numbers.{number_of, next_of, end_of}
-use Rattle.job.specs.declared.Answer.{Answer}
 use Rattle.fields.specs.Number.{number_at}
 
 -- the answer's bytes stand at `at`

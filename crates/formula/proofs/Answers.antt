@@ -11,21 +11,23 @@ use lib.Seq.{take_at, drop_at}
 use borrow.Author.Tests.{leb-true, leb-false}
 use Rattle.grammar.specs.Typed.{Typed, Decision, inside, outside}
 use Rattle.grammar.proofs.TypedRules.{typed_rules}
-use Rattle.formula.specs.Numbers.{number_of, length_of}
+use Rattle.formula.specs.Numbers.{number, number_of, length_of}
 use Rattle.formula.specs.Answer.{room, written, refusal, answer_for, answer_of, TooLong, HandsBack, Answers}
+use Rattle.formula.specs.declared.Refusal.{Refusal}
+use Rattle.formula.specs.declared.Refusal.TheVariants as why
 use Rattle.formula.specs.declared.Turned.{Turned}
 use Rattle.formula.proofs.Turning.{outside_14, fits, too_long}
 
 data Answered (text : List ℕ) : Turned → Type 0 where
-  none_typed : ((p : List ℕ) → Typed text p → ⊥) → Answered text (refusal 14)
-  long : (p : List ℕ) → Typed text p → room < length p → Answered text (refusal 15)
+  none_typed : ((p : List ℕ) → Typed text p → ⊥) → Answered text (refusal why.NotARule)
+  long : (p : List ℕ) → Typed text p → room < length p → Answered text (refusal why.TooLong)
   short : (p : List ℕ) → Typed text p → length p ≤ room → Answered text (written p)
 
 answered : (text : List ℕ) → Answered text (answer_of text)
 unfolding answer_of
 answered text = go (typed_rules.decided text)
   where
-    sized : (p : List ℕ) → Typed text p → (b : Bool) → leb (length p) room ≡ b → Answered text (cond b (written p) (refusal 15))
+    sized : (p : List ℕ) → Typed text p → (b : Bool) → leb (length p) room ≡ b → Answered text (cond b (written p) (refusal why.TooLong))
     sized p t true e = short p t (leb-true _ _ e)
     sized p t false e = long p t (leb-false _ _ e)
 
@@ -66,14 +68,14 @@ module _ {text : List ℕ} where
 hands_back : (p : List ℕ) (q : Turned) → q ≡ written p → HandsBack p q
 hands_back p q e = record { long = ap (λ (x : Turned). length_of x.answer) e; bytes = ap (λ (x : Turned). x.bytes) e }
 
-number_by : (n : ℕ) (q : Turned) → q ≡ refusal n → number_of q.answer ≡ some n
-number_by n q e = ap (λ (x : Turned). number_of x.answer) e
+number_by : (f : Refusal) (q : Turned) → q ≡ refusal f → number_of q.answer ≡ some (number f)
+number_by f q e = ap (λ (x : Turned). number_of x.answer) e
 
 pub answers : Answers
 answers = record {
   postfix = λ text p h. (handed_typed text p, λ t. hands_back p (answer_of text) (fits text p t h));
-  fourteen = λ text. (none_of (answered text), λ h. number_by 14 (answer_of text) (outside_14 text h));
-  fifteen = λ text. (too_long_of (answered text), λ l. number_by 15 (answer_of text) (too_long text l.postfix l.typed l.long));
+  fourteen = λ text. (none_of (answered text), λ h. number_by why.NotARule (answer_of text) (outside_14 text h));
+  fifteen = λ text. (too_long_of (answered text), λ l. number_by why.TooLong (answer_of text) (too_long text l.postfix l.typed l.long));
   zeros = λ text n e. zeros_of n (answered text) e;
   refused_zeros = λ text n e. refused_of n (answered text) e;
   a_rule = λ text n e. typed_rules.a_rule text _ (typed_of n (answered text) e);

@@ -6,14 +6,16 @@ use mathlib.Core.List.{List, [], ◌∷◌, ◌++◌, append_assoc, append-nil}
 use Prim.Native.Nat.{ℕ, suc, ◌+◌, ◌-◌, ◌*◌, ◌≤◌, ◌<◌}
 use native.Mathlib.Omega.{arith}
 use lib.ListN.{length, drop, length-append}
-use Rattle.grammar.specs.Token.{Token, implies, opening, and, or, not_byte, byte}
+use Rattle.grammar.specs.Token.{Token, and, or, not_byte, byte}
 use Rattle.grammar.specs.Spelling.{Spells}
-use Rattle.grammar.specs.Next.{number, first, others, wrong}
+use Rattle.grammar.specs.Next.{first, others}
 use Rattle.grammar.specs.Readings as reads
 use Rattle.grammar.specs.Readings.{Reader, Reads, implication, implies_tail, chain, tail, negation, operand}
-use Rattle.tokens.specs.Tokens.{next_of}
+use Rattle.tokens.specs.Tokens.{next_of, size_of, token_of}
 use Rattle.tokens.specs.declared.Next.{Next}
-use Rattle.tokens.proofs.Tokens.{seen, next_forward, shorter}
+use Rattle.tokens.specs.declared.Token.TheVariants.{Letter, Not, Implies, Opening}
+use Rattle.tokens.proofs.Scan.{letter_of}
+use Rattle.tokens.proofs.Tokens.{seen, next_forward, number_back, shorter}
 use Rattle.formula.specs.Readers.{Moved, Pushed, After, Took}
 use Rattle.formula.specs.declared.Reading.{Reading}
 
@@ -21,7 +23,7 @@ use Rattle.formula.specs.declared.Reading.{Reading}
 pub passes : (text : List ℕ) (at : ℕ) {t : Next} → t ≡ next_of text at → at ≤ t.at
 passes text at e = rw e (next_forward text at)
 
-pub shown : (text : List ℕ) (at : ℕ) {t : Next} {ts : List Token} → t ≡ next_of text at → Spells (drop at text) ts → t.kind ≡ first ts
+pub shown : (text : List ℕ) (at : ℕ) {t : Next} {ts : List Token} → t ≡ next_of text at → Spells (drop at text) ts → t.kind ≡ token_of (first ts)
 shown text at e x = rw e (seen text at x).this
 
 pub kept : (text : List ℕ) {r s : Reading} {b : ℕ} {t : Next} → Pushed r b s → t ≡ next_of text r.at → t ≡ next_of text s.at
@@ -50,12 +52,12 @@ abbrev pub rank : Reader → List ℕ → Reading → ℕ
 rank l text r = (length text - r.at) * 5 + level l
 
 -- behind a token less is left, and each reader's rank is lower
-pub less_left : (text : List ℕ) (s : Reading) {r m : Reading} {t : Next} → t ≡ next_of text r.at → t.kind < wrong → Moved r t.at m → m.at ≤ s.at
+pub less_left : (text : List ℕ) (s : Reading) {r m : Reading} {t : Next} → t ≡ next_of text r.at → 1 ≤ size_of t.kind → Moved r t.at m → m.at ≤ s.at
     → length text - s.at < length text - r.at
 less_left text s {r} e some mv f = let h = rw e at mv.place in shorter text r.at s.at (rw e at some) (omega arith)
 
 pub lower_rank : (k l : Reader) (text : List ℕ) (from : Reading) {n : ℕ} {r m : Reading} {t : Next} → rank l text from ≡ n → from.at ≤ r.at
-    → t ≡ next_of text r.at → t.kind < wrong → Moved r t.at m → rank k text m < n
+    → t ≡ next_of text r.at → 1 ≤ size_of t.kind → Moved r t.at m → rank k text m < n
 lower_rank k l text from {m = m} is f e some mv =
     let s = less_left text m e some mv (omega arith) in
     let h = level_most k in
@@ -91,44 +93,45 @@ module _ {text : List ℕ} {from r s : Reading} {p : List ℕ} {ts : List Token}
 abbrev pub Parts : Reader → List ℕ → ℕ → Reading → Reading → Type 0
 Parts l text d from r = (ts rest : List Token) (p : List ℕ) → Spells (drop from.at text) ts → Reads l d ts p rest → After text from r p rest
 
-operand_first : {d : ℕ} {ts rest : List Token} {p : List ℕ} → Reads operand d ts p rest → first ts ≡ not_byte → ⊥
-operand_first (reads.action h) e = omega arith
-operand_first (reads.bracket y) e = omega arith
+operand_first : {d : ℕ} {ts rest : List Token} {p : List ℕ} → Reads operand d ts p rest → token_of (first ts) ≡ Not → ⊥
+operand_first (reads.action h) e = let s = sym (letter_of _ h) ∙ e in cc
+operand_first (reads.bracket y) e = cc
 
 module _ {text : List ℕ} {from : Reading} {t : Next} (e : t ≡ next_of text from.at) where
   -- a letter
-  pub action : {d : ℕ} {m r : Reading} → t.kind < 10 → Moved from t.at m → Pushed m t.kind r → Took operand text d from r
-  action {d} {r = r} small mv pu = let f = passes text from.at e in record { forward = omega arith; part = parts d }
+  pub action : {a d : ℕ} {m r : Reading} → t.kind ≡ Letter a → Moved from t.at m → Pushed m a r → Took operand text d from r
+  action {a} {d} {r = r} is mv pu = let f = passes text from.at e in record { forward = omega arith; part = parts d }
     where
       parts : (d : ℕ) → Parts operand text d from r
-      parts d ts rest p x (reads.action h) =
-          subst (λ (b : ℕ). After text from r (b ∷ []) rest) (shown text from.at e x) (pushing (moving (standing text from x) e mv) pu)
-      parts d ts rest p x (reads.bracket y) = absurd (let k = shown text from.at e x in omega arith)
+      parts d ts rest p x (reads.action {a = b} h) =
+          let k : a ≡ b = let s = sym is ∙ shown text from.at e x ∙ letter_of b h in cc in
+          subst (λ (b : ℕ). After text from r (b ∷ []) rest) k (pushing (moving (standing text from x) e mv) pu)
+      parts d ts rest p x (reads.bracket y) = absurd (let s = sym is ∙ shown text from.at e x in cc)
 
   -- neither a letter nor a bracket that may be opened
-  pub no_operand : {d : ℕ} → 10 ≤ t.kind → (t.kind ≡ number opening → d ≡ 0) → Took operand text d from from
-  no_operand {d} large closed = record { forward = omega arith; part = parts d closed }
+  pub no_operand : {d : ℕ} → ((a : ℕ) → t.kind ≡ Letter a → ⊥) → (t.kind ≡ Opening → d ≡ 0) → Took operand text d from from
+  no_operand {d} other closed = record { forward = omega arith; part = parts d closed }
     where
-      parts : (d : ℕ) → (t.kind ≡ number opening → d ≡ 0) → Parts operand text d from from
-      parts d closed ts rest p x (reads.action h) = absurd (let k = shown text from.at e x in omega arith)
+      parts : (d : ℕ) → (t.kind ≡ Opening → d ≡ 0) → Parts operand text d from from
+      parts d closed ts rest p x (reads.action {a = a} h) = absurd (other a (shown text from.at e x ∙ letter_of a h))
       parts d closed ts rest p x (reads.bracket y) = absurd (let k = closed (shown text from.at e x) in omega arith)
 
   -- a rule in brackets
-  pub bracket : {d : ℕ} {m i r : Reading} {u : Next} → 10 ≤ t.kind → Moved from t.at m → Took implication text (d - 1) m i
+  pub bracket : {d : ℕ} {m i r : Reading} {u : Next} → t.kind ≡ Opening → Moved from t.at m → Took implication text (d - 1) m i
       → u ≡ next_of text i.at → Moved i u.at r → Took operand text d from r
-  bracket {d} {m} {i} {r} large mv took f mw =
+  bracket {d} {m} {i} {r} is mv took f mw =
       let g = passes text from.at e in
       let h = passes text i.at f in
       record { forward = omega arith; part = parts d took }
     where
       parts : (d : ℕ) → Took implication text (d - 1) m i → Parts operand text d from r
-      parts d took ts rest p x (reads.action h) = absurd (let k = shown text from.at e x in omega arith)
+      parts d took ts rest p x (reads.action {a = a} h) = absurd (let s = sym is ∙ shown text from.at e x ∙ letter_of a h in cc)
       parts d took ts rest p x (reads.bracket {d = c} y) =
           let k : suc c - 1 ≡ c = omega arith in
           moving (taking (moving (standing text from x) e mv) (rw k at took) y) f mw
 
   -- "not", or none
-  pub negated : {d : ℕ} {m i r : Reading} → t.kind ≡ not_byte → Moved from t.at m → Took negation text d m i → Pushed i not_byte r
+  pub negated : {d : ℕ} {m i r : Reading} → t.kind ≡ Not → Moved from t.at m → Took negation text d m i → Pushed i not_byte r
       → Took negation text d from r
   negated {d} {r = r} is mv took pu = let f = passes text from.at e in record { forward = omega arith; part = parts }
     where
@@ -136,7 +139,7 @@ module _ {text : List ℕ} {from : Reading} {t : Next} (e : t ≡ next_of text f
       parts ts rest p x (reads.negated y) = pushing (taking (moving (standing text from x) e mv) took y) pu
       parts ts rest p x (reads.plain y) = absurd (operand_first y (sym (shown text from.at e x) ∙ is))
 
-  pub plain : {d : ℕ} {r : Reading} → (t.kind ≡ not_byte → ⊥) → Took operand text d from r → Took negation text d from r
+  pub plain : {d : ℕ} {r : Reading} → (t.kind ≡ Not → ⊥) → Took operand text d from r → Took negation text d from r
   plain {d} {r} other took = record { forward = took.forward; part = parts }
     where
       parts : Parts negation text d from r
@@ -144,15 +147,15 @@ module _ {text : List ℕ} {from : Reading} {t : Next} (e : t ≡ next_of text f
       parts ts rest p x (reads.plain y) = took.part ts rest p x y
 
   -- "implies", or none
-  pub implied : {d : ℕ} {n m i r : Reading} → t.kind ≡ number implies → Pushed from not_byte n → Moved n t.at m → Took implication text d m i
+  pub implied : {d : ℕ} {n m i r : Reading} → t.kind ≡ Implies → Pushed from not_byte n → Moved n t.at m → Took implication text d m i
       → Pushed i (byte or) r → Took implies_tail text d from r
   implied {d} {r = r} is pn mv took pu = let f = passes text from.at e in record { forward = omega arith; part = parts }
     where
       parts : Parts implies_tail text d from r
       parts ts rest p x (reads.implied y) = pushing (taking (moving (pushing (standing text from x) pn) (kept text pn e) mv) took y) pu
-      parts ts rest p x (reads.not_implied h) = absurd (h (sym (shown text from.at e x) ∙ is))
+      parts ts rest p x (reads.not_implied h) = absurd (h (number_back Implies _ (sym (shown text from.at e x) ∙ is) (λ z. cc)))
 
-  pub not_implied : {d : ℕ} → (t.kind ≡ number implies → ⊥) → Took implies_tail text d from from
+  pub not_implied : {d : ℕ} → (t.kind ≡ Implies → ⊥) → Took implies_tail text d from from
   not_implied {d} other = record { forward = omega arith; part = parts }
     where
       parts : Parts implies_tail text d from from

@@ -1,13 +1,14 @@
 -- Document 02, N1: what is answered to a text. "The text becomes a postfix rule with operands left to right, handed back by value with its length,
 -- the bytes after it 0." "Checks: 14 for text outside this grammar or too deep, then 15 for more than 127 postfix bytes".
 -- The proof of the promises is `answers`.
-use Rattle.std.specs.Prelude.{◌≡◌, cond, List, ◌++◌, ◌↔◌, ℕ, ◌-◌, ◌≤◌, ◌<◌, leb, length, take, drop, replicate}
+use Rattle.std.specs.Prelude.{◌≡◌, cond, List, ◌++◌, ◌↔◌, ℕ, ◌-◌, ◌≤◌, ◌<◌, leb, length, take, drop, replicate, Ok, Err}
 use Rattle.std.proofs.Math.Option.{some}
 use Rattle.bodies.specs.Rule.{Rule}
 use Rattle.grammar.specs.Typed.{Typed, Decision, inside, outside}
 use Rattle.grammar.proofs.TypedRules.{typed_rules}
 use Rattle.formula.specs.Numbers.{number_of, length_of}
-use Rattle.formula.specs.declared.Answer.TheVariants.{Postfix, Refused}
+use Rattle.formula.specs.declared.Refusal.{Refusal}
+use Rattle.formula.specs.declared.Refusal.TheVariants as why
 use Rattle.formula.specs.declared.Turned.{Turned}
 
 -- "127 postfix bytes"
@@ -15,14 +16,14 @@ abbrev pub room : ℕ
 room = 127
 
 abbrev pub written : List ℕ → Turned
-written p = record { answer = Postfix (length p); bytes = p ++ replicate (room - length p) 0 }
+written p = record { answer = Ok (length p); bytes = p ++ replicate (room - length p) 0 }
 
-abbrev pub refusal : ℕ → Turned
-refusal n = record { answer = Refused n; bytes = replicate room 0 }
+abbrev pub refusal : Refusal → Turned
+refusal f = record { answer = Err f; bytes = replicate room 0 }
 
 abbrev pub answer_for : {text : List ℕ} → Decision text → Turned
-answer_for (outside h) = refusal 14
-answer_for (inside p t) = cond (leb (length p) room) (written p) (refusal 15)
+answer_for (outside h) = refusal why.NotARule
+answer_for (inside p t) = cond (leb (length p) room) (written p) (refusal why.TooLong)
 
 -- A text is a typed rule or is none, and as one it has one postfix list: `typed_rules`.
 unfoldable pub answer_of : List ℕ → Turned

@@ -9,55 +9,79 @@ ghost use Rattle.std.specs.Prelude.{◌≡◌, ◌≤◌};
 ghost use Rattle.grammar.specs.Token.{and, or};
 ghost use Rattle.grammar.specs.Readings.{chain, implication, negation, operand};
 ghost use Rattle.formula.specs.Answer.{answer_of, Becomes, refusal};
-ghost use Rattle.formula.specs.Readers.{Moved, Pushed, Took};
+ghost use Rattle.formula.specs.Readers.{Took};
 
-use recognizer::{Count, count_of};
-use tokens::{AND, IMPLIES, LETTERS, NOT, OPENING, OR, next_token};
+use recognizer::count_of;
+use tokens::{Token, next_token};
 
-// A place in the text, and the postfix bytes of what stands before it.
-#[derive(Drop)]
-pub struct Reading {
-    pub at: usize,
-    pub len: usize,
-    pub bytes: [u8; 127],
+// The bytes of not, and and or in a rule.
+const NOT: u8 = 0x80;
+
+const AND: u8 = 0x81;
+
+const OR: u8 = 0x82;
+
+// The most postfix bytes.
+const ROOM: usize = 127;
+
+// Why a text is refused: it is outside the grammar or too deep, or its postfix bytes are too many.
+#[derive(Clone, Copy, Debug, PartialEq, Eq)]
+pub enum Refusal {
+    NotARule,
+    TooLong,
 }
 
-// What a typed rule becomes: how many postfix bytes, or the number that it is refused by.
-#[derive(Drop)]
-pub enum Answer {
-    Postfix(usize),
-    Refused(u8),
+impl Refusal {
+    ghost use Rattle.formula.specs.Numbers.{number};
+
+    // Its number.
+    pub fn number(self) -> u8
+        ensures { result ≡ number self }
+    {
+        match self {
+            Refusal::NotARule => 14,
+            Refusal::TooLong => 15,
+        }
+    }
 }
+
+// What a typed rule becomes: how many postfix bytes, or why it is refused.
+pub type Answer = Result<usize, Refusal>;
 
 // The answer, with the postfix bytes and zeros after them.
 #[derive(Drop)]
 pub struct Turned {
     pub answer: Answer,
-    pub bytes: [u8; 127],
+    pub bytes: [u8; ROOM],
 }
 
-// A postfix byte more; where there is no room, none.
-fn push(from: Reading, b: u8) -> Reading
-    ensures { Pushed from b result }
-{
-    let mut r = from;
-    let len = r.len;
-    if len < 127 {
-        r.bytes[len] = b;
-        r.len = len + 1;
+// A place in the text, and the postfix bytes of what stands before it; there is no heap, so these have a fixed room.
+#[derive(Drop)]
+pub struct Reading {
+    pub at: usize,
+    pub len: usize,
+    pub bytes: [u8; ROOM],
+}
+
+impl Reading {
+    ghost use Rattle.formula.specs.Readers.{Moved, Pushed};
+
+    // A postfix byte more; where there is no room, none.
+    fn push(mut self, b: u8) -> Reading
+        ensures { Pushed self b result }
+    {
+        if self.len < ROOM {
+            self.bytes[self.len] = b;
+            self.len += 1;
+        }
+        self
     }
-    r
-}
 
-// The reading at another place.
-fn moved(from: Reading, at: usize) -> Reading
-    ensures { Moved from at result }
-{
-    let bytes = from.bytes;
-    Reading {
-        at,
-        len: from.len,
-        bytes,
+    // The reading at another place.
+    fn moved(self, at: usize) -> Reading
+        ensures { Moved self at result }
+    {
+        Reading { at, ..self }
     }
 }
 
@@ -66,21 +90,16 @@ fn moved(from: Reading, at: usize) -> Reading
 fn bracket(text: &[u8], from: Reading, depth: usize) -> Reading
     ensures { Took operand text.now depth from result }
 {
-    let at = from.at;
-    let t = next_token(text, at);
-    if t.kind < LETTERS {
-        return push(moved(from, t.at), t.kind);
+    let t = next_token(text, from.at);
+    match t.kind {
+        Token::Letter(action) => from.moved(t.at).push(action),
+        Token::Opening if depth > 0 => {
+            let inner = implication(text, from.moved(t.at), depth - 1);
+            let closing = next_token(text, inner.at);
+            inner.moved(closing.at)
+        }
+        _ => from,
     }
-    if t.kind != OPENING {
-        return from;
-    }
-    if depth == 0 {
-        return from;
-    }
-    let inner = implication(text, moved(from, t.at), depth - 1);
-    let end = inner.at;
-    let c = next_token(text, end);
-    moved(inner, c.at)
 }
 
 // "Not binds tightest"
@@ -88,13 +107,11 @@ fn bracket(text: &[u8], from: Reading, depth: usize) -> Reading
 fn negation(text: &[u8], from: Reading, depth: usize) -> Reading
     ensures { Took negation text.now depth from result }
 {
-    let at = from.at;
-    let t = next_token(text, at);
-    if t.kind != NOT {
-        return bracket(text, from, depth);
+    let t = next_token(text, from.at);
+    match t.kind {
+        Token::Not => negation(text, from.moved(t.at), depth).push(NOT),
+        _ => bracket(text, from, depth),
     }
-    let inner = negation(text, moved(from, t.at), depth);
-    push(inner, NOT)
 }
 
 // "then and"; "and and or group to the left"
@@ -103,13 +120,10 @@ fn conjunction(text: &[u8], from: Reading, depth: usize) -> Reading
     ensures { Took (chain and) text.now depth from result }
 {
     let mut r = negation(text, from, depth);
-    let mut at = r.at;
-    let mut t = next_token(text, at);
-    while t.kind == AND {
-        r = negation(text, moved(r, t.at), depth);
-        r = push(r, AND);
-        at = r.at;
-        t = next_token(text, at);
+    let mut t = next_token(text, r.at);
+    while t.kind == Token::And {
+        r = negation(text, r.moved(t.at), depth).push(AND);
+        t = next_token(text, r.at);
     }
     r
 }
@@ -120,13 +134,10 @@ fn disjunction(text: &[u8], from: Reading, depth: usize) -> Reading
     ensures { Took (chain or) text.now depth from result }
 {
     let mut r = conjunction(text, from, depth);
-    let mut at = r.at;
-    let mut t = next_token(text, at);
-    while t.kind == OR {
-        r = conjunction(text, moved(r, t.at), depth);
-        r = push(r, OR);
-        at = r.at;
-        t = next_token(text, at);
+    let mut t = next_token(text, r.at);
+    while t.kind == Token::Or {
+        r = conjunction(text, r.moved(t.at), depth).push(OR);
+        t = next_token(text, r.at);
     }
     r
 }
@@ -137,24 +148,19 @@ fn implication(text: &[u8], from: Reading, depth: usize) -> Reading
     ensures { Took implication text.now depth from result }
 {
     let left = disjunction(text, from, depth);
-    let at = left.at;
-    let t = next_token(text, at);
-    if t.kind != IMPLIES {
-        return left;
+    let t = next_token(text, left.at);
+    match t.kind {
+        Token::Implies => implication(text, left.push(NOT).moved(t.at), depth).push(OR),
+        _ => left,
     }
-    let negated = push(left, NOT);
-    let right = implication(text, moved(negated, t.at), depth);
-    push(right, OR)
 }
 
-// A refusal.
-fn refused(number: u8) -> Turned
-    ensures { result ≡ refusal number }
+fn refused(why: Refusal) -> Turned
+    ensures { result ≡ refusal why }
 {
-    let bytes = [0u8; 127];
     Turned {
-        answer: Answer::Refused(number),
-        bytes,
+        answer: Err(why),
+        bytes: [0; ROOM],
     }
 }
 
@@ -164,16 +170,14 @@ fn read(text: &[u8], n: usize) -> Turned
     requires n_bound { n ≤ 127 }
     ensures { result ≡ answer_of text.now }
 {
-    let zeros = [0u8; 127];
     let start = Reading {
         at: 0,
         len: 0,
-        bytes: zeros,
+        bytes: [0; ROOM],
     };
-    let end = implication(text, start, 16);
-    let bytes = end.bytes;
+    let bytes = implication(text, start, 16).bytes;
     Turned {
-        answer: Answer::Postfix(n),
+        answer: Ok(n),
         bytes,
     }
 }
@@ -183,12 +187,8 @@ pub fn rule_of(text: &[u8]) -> Turned
     ensures { result ≡ answer_of text.now }
 {
     match count_of(text) {
-        Count::Outside => refused(14),
-        Count::Bytes(n) => {
-            if n > 127 {
-                return refused(15);
-            }
-            read(text, n)
-        }
+        None => refused(Refusal::NotARule),
+        Some(n) if n > ROOM => refused(Refusal::TooLong),
+        Some(n) => read(text, n),
     }
 }

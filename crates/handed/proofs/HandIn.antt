@@ -1,13 +1,14 @@
 -- A file put into an input: the file's bytes go after its length's two, and then these, which is both at once.
 use mathlib.Core.Path.{◌≡◌, refl, sym, ap, ap₂, ◌∙◌}
-use mathlib.Core.Bool.{Bool, true, false, cond, true≢false}
+use mathlib.Core.Bool.{Bool, true, false}
 use mathlib.Core.List.{List, [], ◌∷◌, ◌++◌, append_assoc, append-nil}
 use Prim.Native.Nat.{ℕ, ◌+◌, ◌≤◌, ◌<◌}
 use native.Mathlib.Omega.{arith}
 use lib.Dec.{ltb}
 use lib.ListN.{length, take, drop, length-append, length-drop}
 use lib.Seq.{length-take-le, take_at, drop_at, take-append-le, take-take}
-use borrow.Author.Tests.{lt-ltb, le-ltb, le-leb, lt-leb, leb-true}
+use borrow.Author.Tests.{le-leb, leb-true, ltb-true}
+use Rattle.blocks.proofs.Bounded.{both_true}
 use Rattle.blocks.specs.Area.{fits, placed, written}
 use Rattle.blocks.specs.Block.{two}
 use Rattle.handed.specs.Files.{handed}
@@ -22,29 +23,15 @@ module _ (input : List ℕ) (at : ℕ) (f : List ℕ) where
   size : length (file_bytes f) ≡ 2 + length f
   size = omega arith
 
-  has_room : length f < 65536 → at + (2 + length f) ≤ length input → room_for input at f ≡ true
-  has_room h k = rw (lt-ltb (length f) 65536 h) (le-leb (at + length (file_bytes f)) (length input) (omega (arith, size)))
-
-  pub too_long : 65536 ≤ length f → room_for input at f ≡ false
-  too_long h = rw (le-ltb (length f) 65536 h)
-
-  pub no_room : length input < at + (2 + length f) → room_for input at f ≡ false
-  no_room h = go (ltb (length f) 65536)
-    where
-      go : (small : Bool) → cond small (fits input at (length (file_bytes f))) false ≡ false
-      go true = lt-leb (at + length (file_bytes f)) (length input) (omega (arith, size))
-      go false = refl
-
   pub stays : room_for input at f ≡ false → (input_with input at f ≡ input) × (end_with input at f ≡ at)
   unfolding input_with end_with
   stays e = (rw e, rw e)
 
+  pub small : room_for input at f ≡ true → length f < 65536
+  small e = ltb-true _ _ (both_true (ltb (length f) 65536) (fits input at (length (file_bytes f))) e).0
+
   room : room_for input at f ≡ true → at + length (file_bytes f) ≤ length input
-  room e = leb-true _ _ (go (ltb (length f) 65536) e)
-    where
-      go : (small : Bool) → cond small (fits input at (length (file_bytes f))) false ≡ true → fits input at (length (file_bytes f)) ≡ true
-      go true e = e
-      go false e = absurd (true≢false (sym e))
+  room e = leb-true _ _ (both_true (ltb (length f) 65536) (fits input at (length (file_bytes f))) e).1
 
   -- where it is put
   module _ (h : at + length (file_bytes f) ≤ length input) where
@@ -79,9 +66,9 @@ module _ (input : List ℕ) (at : ℕ) (f : List ℕ) where
     put_long = length-append (take at input ++ file_bytes f) (drop (at + length (file_bytes f)) input) ∙ omega (arith, put_length, length-drop (at + length (file_bytes f)) input)
 
   -- the two copies of the code, where there is room
-  pub put : length f < 65536 → at + (2 + length f) ≤ length input → (at + (2 + length f) ≡ end_with input at f) × (written (written input (at + 2) f) at (two (length f)) ≡ input_with input at f)
+  pub put : room_for input at f ≡ true → (at + (2 + length f) ≡ end_with input at f) × (written (written input (at + 2) f) at (two (length f)) ≡ input_with input at f)
   unfolding input_with end_with
-  put h k = rw (has_room h k) (omega (arith, size), both (omega (arith, size)))
+  put r = rw r (omega (arith, size), both (room r))
 
   puts : room_for input at f ≡ true → take (end_with input at f) (input_with input at f) ≡ take at input ++ file_bytes f
   unfolding input_with end_with

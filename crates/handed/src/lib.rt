@@ -11,54 +11,34 @@ pub use input::append;
 // The most files of a class.
 pub const FILES: usize = 16;
 
-// Where the file at a cursor ends; or its length is cut, or the file.
-#[derive(Drop)]
-enum Next {
-    At(usize),
-    Cut,
-}
-
-// How many files there are; or one is cut, or there are too many.
-#[derive(Drop)]
-pub enum Count {
-    Files(usize),
-    Broken,
-}
-
-fn end_of(input: &[u8], at: usize) -> Next
+// Where the file at a cursor ends; none where its length is cut, or the file.
+fn end_of(input: &[u8], at: usize) -> Option<usize>
     requires { at ≤ length input.now }
     ensures { NextAt input.now at result }
 {
     let left = input.len() - at;
     if left < 2 {
-        return Next::Cut;
+        return None;
     }
     let len = blocks::number_at(input, at);
     if left - 2 < len {
-        return Next::Cut;
+        return None;
     }
-    Next::At(at + 2 + len)
+    Some(at + 2 + len)
 }
 
-// How many files an input has.
-pub fn count_files(input: &[u8]) -> Count
+// How many files an input has; none where one is cut, or there are too many. The lengths in the input move the cursor.
+pub fn count_files(input: &[u8]) -> Option<usize>
     ensures { CountOf input.now result }
 {
     let mut at = 0;
     let mut n = 0;
     while at < input.len() {
         if n == FILES {
-            return Count::Broken;
+            return None;
         }
-        match end_of(input, at) {
-            Next::Cut => {
-                return Count::Broken;
-            }
-            Next::At(end) => {
-                at = end;
-                n += 1;
-            }
-        }
+        at = end_of(input, at)?;
+        n += 1;
     }
-    Count::Files(n)
+    Some(n)
 }

@@ -1,5 +1,5 @@
 -- Worked examples: which window files are accepted, which minutes an entry may come at, and which minutes a record's last entry can have had.
-use mathlib.Core.Path.{◌≡◌, refl}
+use mathlib.Core.Path.{◌≡◌, refl, ap}
 use mathlib.Core.Bool.{true, false}
 use mathlib.Core.List.{List, [], ◌∷◌, ◌++◌}
 use Prim.Native.Nat.{ℕ, ◌+◌, ◌≤◌}
@@ -7,6 +7,7 @@ use native.Mathlib.Omega.{arith}
 use lib.ListN.{length}
 use Rattle.blocks.specs.Block.{two}
 use Rattle.blocks.specs.Bounded.{every}
+use Rattle.hours.specs.Fault.{number_or_0}
 use Rattle.hours.specs.Windows.{windows_fault}
 use Rattle.hours.specs.Hours.{whole_week, window_from, leaf_window, entry_fault, earliest}
 use Rattle.hours.specs.Kept.{soonest, came_by, kept}
@@ -102,7 +103,7 @@ of_its_action = (refl, refl, refl, refl, refl, refl, refl)
 
 -- at any minute: an action without a window, a skip and a throw, though their bytes name action 0, and whatever comes without windows
 any_minute : (w : List ℕ) (n : ℕ) → leaf_window w nodes n ≡ whole_week → (last m : ℕ) → last ≤ m → entry_fault w nodes n last m ≡ 0
-any_minute w n e last m l = no_fault w nodes n last m l (rw e ((inside_says whole_week m).1 (omega arith, omega arith)))
+any_minute w n e last m l = ap number_or_0 (no_fault w nodes n last m l (rw e ((inside_says whole_week m).1 (omega arith, omega arith))))
 
 without_window : (last m : ℕ) → last ≤ m
     → (entry_fault by_day nodes 1 last m ≡ 0) × (entry_fault by_day nodes 2 last m ≡ 0) × (entry_fault by_day nodes 3 last m ≡ 0)

@@ -6,33 +6,36 @@ use mathlib.Core.List.{List}
 use Prim.Native.Nat.{ℕ, zero, suc, ◌+◌, ◌-◌, ◌≤◌, ◌<◌}
 use native.Mathlib.Numerals.{add-one}
 use native.Mathlib.Omega.{arith}
-use lib.Dec.{eqb, leb, ltb, eqb-suc-zero}
-use borrow.Author.Tests.{eqb-true, eq-eqb, leb-true, le-leb, ltb-false, lt-ltb, le-ltb}
+use lib.Dec.{leb, ltb, eqb-suc-zero}
+use borrow.Author.Tests.{eqb-true, leb-true, le-leb, ltb-false, lt-ltb, le-ltb}
 use Rattle.blocks.proofs.Bounded.{both_true}
-use Rattle.hours.specs.Windows.{windows_fault, WindowFile}
-use Rattle.hours.specs.Hours.{leaf_window, inside, entry_fault}
+use Rattle.std.specs.Prelude.{Result, Ok, Err, is_ok}
+use Rattle.hours.specs.Windows.{windows_checked, WindowFile}
+use Rattle.hours.specs.Hours.{leaf_window, inside, entry_checked}
+use Rattle.hours.specs.declared.Fault.{Fault}
+use Rattle.hours.specs.declared.Fault.TheVariants.{Early, Outside}
 use Rattle.hours.specs.Kept.{leaf_of, Came, no_entry, one_more, soonest, came_by, KeepsRecords, kept}
-use Rattle.hours.proofs.ReadsWindows.{reads_windows}
+use Rattle.hours.proofs.ReadsWindows.{passes_file, file_passes}
 use Rattle.hours.proofs.KeepsWindows.{keeps_windows}
 
 -- an entry's refusal
 module _ (w nodes : List ℕ) (n last m : ℕ) where
-  pub fault_early : m < last → entry_fault w nodes n last m ≡ 21
+  pub fault_early : m < last → entry_checked w nodes n last m ≡ Err Early
   fault_early l = rw (lt-ltb m last l)
 
-  pub fault_outside : last ≤ m → inside (leaf_window w nodes n) m ≡ false → entry_fault w nodes n last m ≡ 22
+  pub fault_outside : last ≤ m → inside (leaf_window w nodes n) m ≡ false → entry_checked w nodes n last m ≡ Err Outside
   fault_outside l h = rw (le-ltb m last l, h)
 
-  pub no_fault : last ≤ m → inside (leaf_window w nodes n) m ≡ true → entry_fault w nodes n last m ≡ 0
+  pub no_fault : last ≤ m → inside (leaf_window w nodes n) m ≡ true → entry_checked w nodes n last m ≡ Ok tt
   no_fault l h = rw (le-ltb m last l, h)
 
-  pub fault_none : entry_fault w nodes n last m ≡ 0 → (last ≤ m) × (inside (leaf_window w nodes n) m ≡ true)
+  pub fault_none : entry_checked w nodes n last m ≡ Ok tt → (last ≤ m) × (inside (leaf_window w nodes n) m ≡ true)
   fault_none = go (ltb m last) (inside (leaf_window w nodes n) m) refl
     where
-      go : (a b : Bool) → ltb m last ≡ a → ◌≡◌ {A = ℕ} (cond a 21 (cond b 0 22)) 0 → (last ≤ m) × (b ≡ true)
-      go true b e h = absurd (omega arith)
+      go : (a b : Bool) → ltb m last ≡ a → ◌≡◌ {A = Result Unit Fault} (cond a (Err Early) (cond b (Ok tt) (Err Outside))) (Ok tt) → (last ≤ m) × (b ≡ true)
+      go true b e h = cc
       go false true e h = (ltb-false m last e, refl)
-      go false false e h = absurd (omega arith)
+      go false false e h = cc
 
 module _ (w nodes r : List ℕ) where
   pub came_none : came_by w nodes r 0 0 ≡ true
@@ -103,9 +106,13 @@ keeps_records = record { tells = λ actions w nodes r taken m f. (came_says acti
 pub kept_says : (actions : ℕ) (w nodes r : List ℕ) (taken m : ℕ) → kept actions w nodes r taken m ≡ true
     → WindowFile actions w × (came_by w nodes r taken m ≡ true)
 kept_says actions w nodes r taken m h =
-    let (file, came) = both_true (eqb (windows_fault actions w) 0) (came_by w nodes r taken m) h in
-    ((reads_windows.accepts actions w).0 (eqb-true _ _ file), came)
+    let (file, came) = both_true (is_ok (windows_checked actions w)) (came_by w nodes r taken m) h in
+    (passes_file actions w (is_passed (windows_checked actions w) file), came)
+  where
+    is_passed : (x : Result Unit Fault) → is_ok x ≡ true → x ≡ Ok tt
+    is_passed (Ok tt) e = refl
+    is_passed (Err f) e = cc
 
 pub kept_holds : (actions : ℕ) (w nodes r : List ℕ) (taken m : ℕ) → WindowFile actions w → came_by w nodes r taken m ≡ true
     → kept actions w nodes r taken m ≡ true
-kept_holds actions w nodes r taken m f came = rw (eq-eqb _ _ ((reads_windows.accepts actions w).1 f)) came
+kept_holds actions w nodes r taken m f came = rw (file_passes actions w f) came

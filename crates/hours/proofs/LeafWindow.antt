@@ -10,10 +10,9 @@ use lib.Dec.{ltb, eqb}
 use borrow.Author.Count.{below_more}
 use borrow.Author.Tests.{ltb-true, ltb-false, eqb-true, eqb-false}
 use Rattle.nodes.specs.Nodes.{count, form, left}
-use Rattle.hours.specs.Windows.{week, window_count, action, WindowFile}
+use Rattle.hours.specs.Windows.{week, window_count, action, window_at, WindowFile}
 use Rattle.hours.specs.Hours.{LeafOf, OpenAt, whole_week, window_from, window_of, leaf_window, inside}
 use Rattle.hours.specs.declared.Window.{Window}
-use Rattle.hours.proofs.WindowFrom.{window_at}
 use Rattle.hours.proofs.Earliest.{Legal, inside_says}
 
 -- x is a window of the file that P holds of, or there is none and x is the whole week

@@ -1,17 +1,19 @@
 -- The reader's answer for a window file is 0 or 23, and 0 exactly for window files: each test is its statement. And there are at most as many
 -- windows as actions: counted by action each window is counted once, and no action counts two.
-use mathlib.Core.Path.{◌≡◌, refl, sym, ◌∙◌}
+use mathlib.Core.Path.{◌≡◌, refl, sym, ap, ◌∙◌}
 use mathlib.Core.Bool.{Bool, true, false, not, true≢false, cond}
 use mathlib.Core.List.{List}
 use mathlib.Core.Logic.{◌↔◌, ◌⊎◌, inl, inr}
 use Prim.Native.Nat.{ℕ, ◌*◌, ◌%◌, ◌≤◌, ◌<◌}
+use Rattle.std.specs.Prelude.{Ok}
 use native.Mathlib.Omega.{arith}
 use lib.Dec.{eqb, leb}
 use lib.ListN.{length}
 use borrow.Author.Tests.{leb-true, leb-false, le-leb, ltb-true, lt-ltb, eqb-true, eqb-false, eq-eqb, ne_eqb}
 use Rattle.blocks.specs.Bounded.{every, total, one}
 use Rattle.blocks.proofs.Bounded.{decide, both_true, every_at, every_all, total_upto, total_some, total_single, total_same, total_exchanged, total_below, one_holds, one_most}
-use Rattle.hours.specs.Windows.{week, window_count, action, opens, closes, WindowFile, beside_ok, window_ok, windows_ok, windows_fault, ReadsWindows}
+use Rattle.hours.specs.Windows.{week, window_count, action, opens, closes, WindowFile, beside_ok, window_ok, windows_ok, windows_checked, windows_fault, ReadsWindows}
+use Rattle.hours.specs.Fault.{number_or_0}
 
 -- window i beside window j
 beside_says : (i ai j aj : ℕ) → (beside_ok i ai j aj ≡ true) ↔ (ai ≡ aj → i ≡ j)
@@ -74,6 +76,13 @@ module _ (actions : ℕ) (w : List ℕ) where
       from : (windows_ok actions w ≡ true) ⊎ (windows_ok actions w ≡ false) → (WindowFile actions w → ⊥) → windows_fault actions w ≡ 23
       from (inl e) h = absurd (h (windows_say.0 e))
       from (inr e) h = rw e
+
+  -- for those who go on from the check
+  pub passes_file : windows_checked actions w ≡ Ok tt → WindowFile actions w
+  passes_file h = accepts.0 (ap number_or_0 h)
+
+  pub file_passes : WindowFile actions w → windows_checked actions w ≡ Ok tt
+  file_passes f = rw (windows_say.1 f)
 
   module _ (f : WindowFile actions w) where
     -- how many windows name the action a

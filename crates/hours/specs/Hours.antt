@@ -1,8 +1,11 @@
 -- N9 of document 02: "Each entry to a timed job carries a 32-bit minute; its remainder by 10,080 must lie in the window of that leaf's action.
 -- Skips and throws have no window, nor does an action left out; these may come at any minute."
-use Rattle.std.specs.Prelude.{Bool, true, false, cond, List, ◌↔◌, ◌≡◌, ℕ, zero, suc, ◌+◌, ◌-◌, ◌%◌, ◌≤◌, ◌<◌, ltb, leb, eqb}
+use Rattle.std.specs.Prelude.{Bool, true, false, cond, Result, Ok, Err, List, ◌↔◌, ◌≡◌, ℕ, zero, suc, ◌+◌, ◌-◌, ◌%◌, ◌≤◌, ◌<◌, ltb, leb, eqb}
 use Rattle.nodes.specs.Nodes.{count, form, left}
-use Rattle.hours.specs.Windows.{week, window_count, action, opens, closes, WindowFile}
+use Rattle.hours.specs.Windows.{week, window_count, action, opens, closes, window_at, WindowFile}
+use Rattle.hours.specs.Fault.{number_or_0}
+use Rattle.hours.specs.declared.Fault.{Fault}
+use Rattle.hours.specs.declared.Fault.TheVariants.{Early, Outside}
 use Rattle.hours.specs.declared.Window.{Window}
 
 -- node n is a leaf of the action a
@@ -22,7 +25,7 @@ whole_week = record { opens = 0; closes = week }
 -- the window of the action a among the next k from the i-th on
 unfoldable pub window_from : ℕ → ℕ → List ℕ → ℕ → Window
 window_from zero i w a = whole_week
-window_from (suc k) i w a = cond (eqb (action w i) a) (record { opens = opens w i; closes = closes w i }) (window_from k (i + 1) w a)
+window_from (suc k) i w a = cond (eqb (action w i) a) (window_at w i) (window_from k (i + 1) w a)
 
 abbrev pub window_of : List ℕ → ℕ → Window
 window_of w a = window_from (window_count w) 0 w a
@@ -34,8 +37,12 @@ abbrev pub inside : Window → ℕ → Bool
 inside x m = cond (leb x.opens (m % week)) (ltb (m % week) x.closes) false
 
 -- "Checks: after 11, 21 for an earlier minute, then 22 for outside the window": an entry of leaf n at minute m, after one at minute `last`
+abbrev pub entry_checked : List ℕ → List ℕ → ℕ → ℕ → ℕ → Result Unit Fault
+entry_checked w nodes n last m = cond (ltb m last) (Err Early) (cond (inside (leaf_window w nodes n) m) (Ok tt) (Err Outside))
+
+-- the number of the refusal; 0 where there is none
 abbrev pub entry_fault : List ℕ → List ℕ → ℕ → ℕ → ℕ → ℕ
-entry_fault w nodes n last m = cond (ltb m last) 21 (cond (inside (leaf_window w nodes n) m) 0 22)
+entry_fault w nodes n last m = number_or_0 (entry_checked w nodes n last m)
 
 -- the least minute from t on that lies in the window
 abbrev pub earliest : Window → ℕ → ℕ

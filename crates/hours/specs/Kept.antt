@@ -1,8 +1,8 @@
 -- Which minutes a job's last entry can have had, by its record and windows: each entry has an earliest minute that it can have had, not before
 -- that of the entry before it and inside its action's window. The last entry's own minute is at least the earliest of the one before it, and
 -- inside its own window. Where there is no entry, the minute is 0.
-use Rattle.std.specs.Prelude.{Bool, true, false, cond, List, ◌↔◌, ◌≡◌, ℕ, zero, suc, ◌*◌, ◌-◌, ◌≤◌, leb, eqb, get_or}
-use Rattle.hours.specs.Windows.{WindowFile, windows_fault}
+use Rattle.std.specs.Prelude.{Bool, true, false, cond, is_ok, List, ◌↔◌, ◌≡◌, ℕ, zero, suc, ◌*◌, ◌-◌, ◌≤◌, leb, eqb, get_or}
+use Rattle.hours.specs.Windows.{WindowFile, windows_checked}
 use Rattle.hours.specs.Hours.{OpenAt, leaf_window, inside, earliest}
 
 -- the leaf of entry k of a record, two bytes an entry
@@ -31,4 +31,4 @@ pub record KeepsRecords : Type 0 where
 
 -- the same, by bytes that are a window file
 abbrev pub kept : ℕ → List ℕ → List ℕ → List ℕ → ℕ → ℕ → Bool
-kept actions w nodes r taken m = cond (eqb (windows_fault actions w) 0) (came_by w nodes r taken m) false
+kept actions w nodes r taken m = cond (is_ok (windows_checked actions w)) (came_by w nodes r taken m) false

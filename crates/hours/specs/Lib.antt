@@ -1,3 +1,4 @@
+pub mod Fault
 pub mod Windows
 pub mod Hours
 pub mod Kept

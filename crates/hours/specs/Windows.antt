@@ -1,8 +1,12 @@
 -- N9 of document 02: "A window file holds five bytes for each window: action, then from and to, two bytes each, in minutes of the week, 0 up to
 -- 10,080, the end excluded. It may be empty." What one is, for a plan of so many actions, and the test of it.
-use Rattle.std.specs.Prelude.{Bool, true, false, not, cond, List, ◌↔◌, ◌≡◌, ℕ, ◌+◌, ◌*◌, ◌/◌, ◌%◌, ◌≤◌, ◌<◌, ltb, leb, eqb, length, get_or}
+use Rattle.std.specs.Prelude.{Bool, true, false, not, cond, Result, Ok, Err, List, ◌↔◌, ◌≡◌, ℕ, ◌+◌, ◌*◌, ◌/◌, ◌%◌, ◌≤◌, ◌<◌, ltb, leb, eqb, length, get_or}
 use Rattle.blocks.specs.Block.{le16}
 use Rattle.blocks.specs.Bounded.{every}
+use Rattle.hours.specs.Fault.{number_or_0}
+use Rattle.hours.specs.declared.Window.{Window}
+use Rattle.hours.specs.declared.Fault.{Fault}
+use Rattle.hours.specs.declared.Fault.TheVariants as fault
 
 -- how many minutes a week has
 abbrev pub week : ℕ
@@ -20,6 +24,9 @@ opens w i = le16 w (5 * i + 1)
 
 abbrev pub closes : List ℕ → ℕ → ℕ
 closes w i = le16 w (5 * i + 3)
+
+abbrev pub window_at : List ℕ → ℕ → Window
+window_at w i = record { opens = opens w i; closes = closes w i }
 
 -- what the file may hold: 23 is for "another length, an action too large or named twice, from not less than to, or to above 10,080"
 pub record WindowFile (actions : ℕ) (w : List ℕ) : Type 0 where
@@ -47,9 +54,12 @@ window_ok actions w i =
 abbrev pub windows_ok : ℕ → List ℕ → Bool
 windows_ok actions w = cond (eqb (length w % 5) 0) (every (window_count w) (λ i. window_ok actions w i)) false
 
+abbrev pub windows_checked : ℕ → List ℕ → Result Unit Fault
+windows_checked actions w = cond (windows_ok actions w) (Ok tt) (Err fault.Windows)
+
 -- the number of a window file's refusal; 0 where there is none
 abbrev pub windows_fault : ℕ → List ℕ → ℕ
-windows_fault actions w = cond (windows_ok actions w) 0 23
+windows_fault actions w = number_or_0 (windows_checked actions w)
 
 -- The reader's answer is 0 or 23, and 0 exactly for window files, whatever the bytes.
 pub record ReadsWindows : Type 0 where

@@ -1,10 +1,10 @@
 // An entry's minute: the window of its leaf's action, and whether the minute is in order and inside it; and the minutes of a whole record.
 ghost use Rattle.std.specs.Prelude.{◌≡◌, ◌≤◌, ◌<◌};
-ghost use Rattle.hours.specs.Hours.{whole_week, window_of, leaf_window, inside, entry_fault, earliest};
+ghost use Rattle.hours.specs.Hours.{whole_week, window_of, leaf_window, inside, entry_checked, earliest};
 ghost use Rattle.hours.specs.Kept.{soonest, came_by, kept};
 
-use crate::Window;
-use crate::windows::WEEK;
+use crate::windows::{WEEK, window_at};
+use crate::{Fault, Window};
 
 // What may come at any minute has the whole week.
 fn whole_week() -> Window
@@ -20,57 +20,47 @@ fn whole_week() -> Window
 fn window_of(w: &[u8], action: usize) -> Window
     ensures { (result ≡ window_of w.now action) × (result.opens < 65536) }
 {
-    let n = w.len() / 5;
-    let mut i = 0;
-    while i < n {
-        if blocks::wide(w[5 * i]) == action {
-            return Window {
-                opens: blocks::number_at(w, 5 * i + 1),
-                closes: blocks::number_at(w, 5 * i + 3),
-            };
-        }
-        i += 1;
+    match (0..w.len() / 5).find(|&i| usize::from(w[5 * i]) == action) {
+        Some(i) => window_at(w, i),
+        None => whole_week(),
     }
-    whole_week()
 }
 
 // The window of the action of a leaf.
+#[tactic(auto, unfolding(crate::specs::Hours::leaf_window))]
 fn leaf_window(w: &[u8], nodes: &[u8], leaf: u8) -> Window
     ensures { (result ≡ leaf_window w.now nodes.now leaf) × (result.opens < 65536) }
 {
-    let n = blocks::wide(leaf);
-    if n < nodes.len() / 3 {
-        let x = nodes::node_at(nodes, n);
-        if x.form == 0 {
-            return window_of(w, x.left);
-        }
+    let n = usize::from(leaf);
+    if n >= nodes.len() / 3 {
         return whole_week();
     }
-    whole_week()
+    let x = nodes::node_at(nodes, n);
+    if x.form == 0 {
+        window_of(w, x.left)
+    } else {
+        whole_week()
+    }
 }
 
 // Whether the minute lies in the window.
 fn is_inside(x: Window, minute: usize) -> bool
     ensures { result ≡ inside x minute }
 {
-    let m = minute % WEEK;
-    if x.opens <= m {
-        return m < x.closes;
-    }
-    false
+    (x.opens..x.closes).contains(&(minute % WEEK))
 }
 
-// The number that an entry of the leaf is refused by, at this minute and after an entry at the minute `last`; 0 where it is not.
-pub fn fault(w: &[u8], nodes: &[u8], leaf: u8, last: u32, minute: u32) -> u8
-    ensures { result ≡ entry_fault w.now nodes.now leaf last minute }
+// Whether an entry of the leaf may come at this minute, after an entry at the minute `last`.
+pub fn check(w: &[u8], nodes: &[u8], leaf: u8, last: u32, minute: u32) -> Result<(), Fault>
+    ensures { result ≡ entry_checked w.now nodes.now leaf last minute }
 {
     if minute < last {
-        return 21;
+        return Err(Fault::Early);
     }
-    if is_inside(leaf_window(w, nodes, leaf), minute as usize) {
-        return 0;
+    if !is_inside(leaf_window(w, nodes, leaf), minute as usize) {
+        return Err(Fault::Outside);
     }
-    22
+    Ok(())
 }
 
 // The least minute from `t` on that lies in the window.
@@ -89,15 +79,14 @@ fn earliest(x: Window, t: usize) -> usize
 }
 
 // The earliest minute at which the first `k` entries of a record can have come.
+#[tactic(auto, using(crate::proofs::Earliest::earliest_most), unfolding(crate::specs::Kept::soonest))]
 fn soonest(w: &[u8], nodes: &[u8], entries: &[u8; 126], k: usize) -> usize
     requires { k ≤ 63 }
     ensures { result ≡ soonest w.now nodes.now entries.now k }
 {
     let mut t = 0;
-    let mut i = 0;
-    while i < k {
+    for i in 0..k {
         t = earliest(leaf_window(w, nodes, entries[2 * i]), t);
-        i += 1;
     }
     t
 }
@@ -111,10 +100,8 @@ fn came_by(w: &[u8], nodes: &[u8], entries: &[u8; 126], taken: usize, minute: us
         return minute == 0;
     }
     let last = taken - 1;
-    if soonest(w, nodes, entries, last) <= minute {
-        return is_inside(leaf_window(w, nodes, entries[2 * last]), minute);
-    }
-    false
+    soonest(w, nodes, entries, last) <= minute
+        && is_inside(leaf_window(w, nodes, entries[2 * last]), minute)
 }
 
 // Whether the bytes are a window file for a plan of so many actions with these nodes, and the last of `taken` entries can have come at this minute.
@@ -129,8 +116,5 @@ pub fn kept(
     requires { taken ≤ 63 }
     ensures { result ≡ kept actions w.now nodes.now entries.now taken minute }
 {
-    if crate::windows::fault(w, actions) != 0 {
-        return false;
-    }
-    came_by(w, nodes, entries, taken, minute as usize)
+    crate::windows::check(w, actions).is_ok() && came_by(w, nodes, entries, taken, minute as usize)
 }

@@ -1,18 +1,21 @@
 // The window file: five bytes for each window.
 ghost use Rattle.std.specs.Prelude.{◌≡◌, ◌<◌};
-ghost use Rattle.hours.specs.Windows.{window_count, beside_ok, alone_ok, window_ok, windows_ok, windows_fault};
+ghost use Rattle.hours.specs.Windows.{window_count, window_at, alone_ok, window_ok, windows_ok, windows_checked};
+
+use crate::{Fault, Window};
 
 // How many minutes a week has.
 pub const WEEK: usize = 10080;
 
-// Whether window i, of the action `ai`, may stand beside window j, of the action `aj`.
-fn beside_ok(i: usize, ai: u8, j: usize, aj: u8) -> bool
-    ensures { result ≡ beside_ok i ai j aj }
+// When window i is open.
+pub(crate) fn window_at(w: &[u8], i: usize) -> Window
+    requires { i < window_count w.now }
+    ensures { (result ≡ window_at w.now i) × (result.opens < 65536) }
 {
-    if i == j {
-        return true;
+    Window {
+        opens: blocks::number_at(w, 5 * i + 1),
+        closes: blocks::number_at(w, 5 * i + 3),
     }
-    ai != aj
 }
 
 // Whether no other window names the action of window i.
@@ -20,60 +23,30 @@ fn alone_ok(w: &[u8], i: usize) -> bool
     requires { i < window_count w.now }
     ensures { result ≡ alone_ok w.now i }
 {
-    let n = w.len() / 5;
-    let action = w[5 * i];
-    let mut j = 0;
-    while j < n {
-        if !beside_ok(i, action, j, w[5 * j]) {
-            return false;
-        }
-        j += 1;
-    }
-    true
+    (0..w.len() / 5).all(|j| i == j || w[5 * i] != w[5 * j])
 }
 
 fn window_ok(w: &[u8], actions: usize, i: usize) -> bool
     requires { i < window_count w.now }
     ensures { result ≡ window_ok actions w.now i }
 {
-    let action = w[5 * i];
-    let opens = blocks::number_at(w, 5 * i + 1);
-    let closes = blocks::number_at(w, 5 * i + 3);
-    if blocks::wide(action) < actions {
-        if opens < closes {
-            if closes <= WEEK {
-                return alone_ok(w, i);
-            }
-            return false;
-        }
-        return false;
-    }
-    false
+    let x = window_at(w, i);
+    usize::from(w[5 * i]) < actions && x.opens < x.closes && x.closes <= WEEK && alone_ok(w, i)
 }
 
 fn windows_ok(w: &[u8], actions: usize) -> bool
     ensures { result ≡ windows_ok actions w.now }
 {
-    if w.len() % 5 != 0 {
-        return false;
-    }
-    let n = w.len() / 5;
-    let mut i = 0;
-    while i < n {
-        if !window_ok(w, actions, i) {
-            return false;
-        }
-        i += 1;
-    }
-    true
+    w.len() % 5 == 0 && (0..w.len() / 5).all(|i| window_ok(w, actions, i))
 }
 
-// The number that a window file is refused by, for a plan of so many actions; 0 where it is none.
-pub fn fault(w: &[u8], actions: usize) -> u8
-    ensures { result ≡ windows_fault actions w.now }
+// Whether the bytes are a window file for a plan of so many actions.
+pub fn check(w: &[u8], actions: usize) -> Result<(), Fault>
+    ensures { result ≡ windows_checked actions w.now }
 {
     if windows_ok(w, actions) {
-        return 0;
+        Ok(())
+    } else {
+        Err(Fault::Windows)
     }
-    23
 }

@@ -1,22 +1,22 @@
 -- What reading says of itself: how the count goes together with the buffer, and with a failure. Which bytes came, and whether a call of
 -- the system failed, no contract can say: they come from outside.
-use Rattle.std.specs.Prelude.{true, false, List, Result, Ok, Err, ◌≡◌, ℕ, ◌≤◌, ◌<◌, min, length}
+use Rattle.std.specs.Prelude.{List, Result, Ok, Err, IfErr, ◌≡◌, ℕ, ◌≤◌, ◌<◌, length}
 use Rattle.io.specs.Counts.{IsPrefixLen}
-use Rattle.input.specs.declared.Filled.{Filled}
+use Rattle.input.specs.declared.Unread.{Unread}
 
--- the answer to a read into `room` bytes, from what the call gave: a read that failed has put none there
-abbrev pub answer_of : {E : Type 0} → Result ℕ E → ℕ → Filled
-answer_of (Ok n) room = record { count = min n room; failed = false }
-answer_of (Err e) room = record { count = 0; failed = true }
+-- how many bytes came, those before a failure too
+abbrev pub count_of : Result ℕ Unread → ℕ
+count_of (Ok n) = n
+count_of (Err e) = e.count
 
 -- one read into `room` bytes
-pub record OneRead (room : ℕ) (r : Filled) : Type 0 where
-  pub most : r.count ≤ room
-  pub none : r.failed ≡ true → r.count ≡ 0
+pub record OneRead (room : ℕ) (r : Result ℕ Unread) : Type 0 where
+  pub most : count_of r ≤ room
+  pub none : IfErr r (λ e. e.count ≡ 0)
 
 -- `buffer` is what the buffer holds after it was filled
-pub record Fills (buffer : List ℕ) (r : Filled) : Type 0 where
+pub record Fills (buffer : List ℕ) (r : Result ℕ Unread) : Type 0 where
   -- the count is of bytes at the start of the buffer
-  pub within : IsPrefixLen r.count buffer
+  pub within : IsPrefixLen (count_of r) buffer
   -- where all are there, nothing has failed
-  pub short : r.failed ≡ true → r.count < length buffer
+  pub short : IfErr r (λ e. e.count < length buffer)

@@ -4,126 +4,78 @@
 // `fill_from` hand on what the reader and the opening answered is to be read here: docs/TRUST.md names it.
 #![tactic(auto)]
 
-ghost use Rattle.std.specs.Prelude.{◌≡◌, ◌-◌, ◌≤◌, ◌↔◌, true, IsSome, length, take};
+ghost use Rattle.std.specs.Prelude.{◌≡◌, ◌-◌, ◌≤◌, length, take};
 ghost use Rattle.io.specs.Counts.{IsPrefixLen};
-ghost use Rattle.input.specs.Answer.{answer_of, OneRead, Fills};
+ghost use Rattle.input.specs.Answer.{count_of, OneRead, Fills};
 
 use std::env::{Env, FillError};
 use std::fs::{File, Files};
 use std::io;
 use std::io::{ErrorKind, Read};
 
-// What reading gave: how many bytes stand at the start of the buffer, and whether a read failed after them.
-#[derive(Clone, Copy)]
-pub struct Filled {
-    pub count: usize,
-    pub failed: bool,
-}
-
-// What reading gave, and why where a read failed.
+// Reading has failed: how many bytes stand at the start of the buffer, which came before that, and why.
 #[derive(Drop)]
-pub struct Reading {
-    pub filled: Filled,
-    pub why: Option<io::Error>,
+pub struct Unread {
+    pub count: usize,
+    pub why: io::Error,
 }
 
-// What the answer of one read says: no bytes where the input has ended.
-fn answered(got: &io::Result<usize>, buf: &[u8]) -> Filled
-    ensures value { result ≡ answer_of got.now (length buf.now) }
-    ensures count_in_bounds { result.count ≤ length buf.now }
-{
-    match got {
-        Ok(n) => Filled {
-            count: if *n < buf.len() { *n } else { buf.len() },
-            failed: false,
-        },
-        Err(_) => Filled {
-            count: 0,
-            failed: true,
-        },
+// It failed before any came.
+impl From<io::Error> for Unread {
+    ghost from_gives = { λ why r. r ≡ record { count = 0; why = why } };
+
+    fn from(why: io::Error) -> Unread {
+        Unread { count: 0, why }
     }
 }
 
 // One read: it gives what has come, as soon as anything has, and nothing where the input has ended.
-pub fn read_some<R: Read>(from: &mut R, buf: &mut [u8]) -> Reading
-    ensures one_read { OneRead (length buf.old) result.filled }
-    ensures prefix_len { IsPrefixLen result.filled.count buf.new }
-    ensures why { (result.filled.failed ≡ true) ↔ IsSome result.why }
+pub fn read_some<R: Read>(from: &mut R, buf: &mut [u8]) -> Result<usize, Unread>
+    ensures one_read { OneRead (length buf.old) result }
+    ensures prefix_len { IsPrefixLen (count_of result) buf.new }
 {
-    let got = from.read(buf);
-    let filled = answered(&got, buf);
-    Reading {
-        filled,
-        why: got.err(),
-    }
+    Ok(from.read(buf)?)
 }
 
 // One read into the bytes from `done` on. Those before it stay.
-fn read_after<R: Read>(from: &mut R, buf: &mut [u8], done: usize) -> Reading
+fn read_after<R: Read>(from: &mut R, buf: &mut [u8], done: usize) -> Result<usize, Unread>
     requires { done ≤ length buf.old }
-    ensures one_read { OneRead (length buf.old - done) result.filled }
+    ensures one_read { OneRead (length buf.old - done) result }
     ensures buf_unchanged { take done buf.new ≡ take done buf.old }
-    ensures why { (result.filled.failed ≡ true) ↔ IsSome result.why }
 {
     read_some(from, &mut buf[done..])
 }
 
 // Reads until the buffer is full, the input ends or a read fails.
-pub fn fill<R: Read>(from: &mut R, buf: &mut [u8]) -> Reading
-    ensures filled { Fills buf.new result.filled }
-    ensures why { (result.filled.failed ≡ true) ↔ IsSome result.why }
+pub fn fill<R: Read>(from: &mut R, buf: &mut [u8]) -> Result<usize, Unread>
+    ensures { Fills buf.new result }
 {
     let mut done = 0;
+    // No index counts here: how far a read goes is the input's to say.
     while done < buf.len() {
-        let more = read_after(from, buf, done);
-        let got = more.filled;
-        if got.count == 0 {
-            return Reading {
-                filled: Filled {
+        match read_after(from, buf, done) {
+            Ok(0) => break,
+            Ok(n) => done += n,
+            Err(e) => {
+                return Err(Unread {
                     count: done,
-                    failed: got.failed,
-                },
-                why: more.why,
-            };
+                    why: e.why,
+                });
+            }
         }
-        done += got.count;
     }
-    Reading {
-        filled: Filled {
-            count: done,
-            failed: false,
-        },
-        why: None,
-    }
-}
-
-// Nothing was read, for this reason.
-fn unread(why: io::Error) -> Reading
-    ensures nothing { result.filled.count ≡ 0 }
-    ensures failed { result.filled.failed ≡ true }
-    ensures why { IsSome result.why }
-{
-    Reading {
-        filled: Filled {
-            count: 0,
-            failed: true,
-        },
-        why: Some(why),
-    }
+    Ok(done)
 }
 
 // Reads the file of this name, until the buffer is full, the file ends or something fails. A name is text in UTF-8, and no file has another.
-pub fn fill_from<F: Files>(files: &F, path: &[u8], buf: &mut [u8]) -> Reading
-    ensures prefix_len { IsPrefixLen result.filled.count buf.new }
-    ensures why { (result.filled.failed ≡ true) ↔ IsSome result.why }
+pub fn fill_from<F: Files>(files: &F, path: &[u8], buf: &mut [u8]) -> Result<usize, Unread>
+    ensures { IsPrefixLen (count_of result) buf.new }
 {
-    match str::from_utf8(path) {
-        Ok(name) => match File::open(files, name) {
-            Ok(mut file) => fill(&mut file, buf),
-            Err(why) => unread(why),
-        },
-        Err(_) => unread(io::Error::from(ErrorKind::InvalidInput)),
-    }
+    let Ok(name) = str::from_utf8(path) else {
+        return Err(Unread::from(io::Error::from(ErrorKind::InvalidInput)));
+    };
+    let mut file = File::open(files, name)?;
+    fill(&mut file, buf)
 }
 
 // The number that the system has for a name that is too long.
@@ -131,34 +83,18 @@ const NAME_TOO_LONG: i32 = 36;
 
 // How many arguments there are, the name of the program among them.
 pub fn arg_count<R: Env>(rt: &R) -> usize {
-    for i in 0..usize::MAX {
-        if let Err(FillError::NotPresent) = rt.arg(i, &mut []) {
-            return i;
-        }
-    }
-    usize::MAX
+    (0..usize::MAX)
+        .find(|&i| matches!(rt.arg(i, &mut []), Err(FillError::NotPresent)))
+        .unwrap_or(usize::MAX)
 }
 
 // The i-th argument, put into the buffer: nothing where there is none, and a failure where it has no room.
-pub fn arg_at<R: Env>(rt: &R, i: usize, buf: &mut [u8]) -> Reading
-    ensures prefix_len { IsPrefixLen result.filled.count buf.new }
-    ensures why { (result.filled.failed ≡ true) ↔ IsSome result.why }
+pub fn arg_at<R: Env>(rt: &R, i: usize, buf: &mut [u8]) -> Result<usize, Unread>
+    ensures { IsPrefixLen (count_of result) buf.new }
 {
     match rt.arg(i, buf) {
-        Ok(count) => Reading {
-            filled: Filled {
-                count,
-                failed: false,
-            },
-            why: None,
-        },
-        Err(FillError::NotPresent) => Reading {
-            filled: Filled {
-                count: 0,
-                failed: false,
-            },
-            why: None,
-        },
-        Err(FillError::TooLong) => unread(io::Error::from_raw_os_error(NAME_TOO_LONG)),
+        Ok(n) => Ok(n),
+        Err(FillError::NotPresent) => Ok(0),
+        Err(FillError::TooLong) => Err(Unread::from(io::Error::from_raw_os_error(NAME_TOO_LONG))),
     }
 }

@@ -6,22 +6,16 @@ ghost use Rattle.text.specs.Text.{text_of};
 ghost use Rattle.plan.specs.Reading.{read_of};
 ghost use Rattle.inspection.specs.Lines.{inspect_line};
 
-use plan::Reading;
 use text::Text;
-
-// The line that tells a reading.
-fn told(reading: Reading) -> Text
-    ensures { result ≡ text_of (inspect_line reading) }
-{
-    match reading {
-        Reading::Accepted(_) => text::put_line(text::empty(), b"accepted"),
-        Reading::Refused(number) => text::put_numbered(text::empty(), b"refused", number as u64),
-    }
-}
 
 // The line that tells whether the file is accepted.
 pub fn answer(file: &[u8]) -> Text
     ensures { result ≡ text_of (inspect_line (read_of file.now)) }
 {
-    told(plan::read(file))
+    let mut line = Text::new();
+    match plan::read(file) {
+        Ok(_) => line.put_line(b"accepted"),
+        Err(fault) => line.put_numbered(b"refused", u64::from(fault.number())),
+    }
+    line
 }

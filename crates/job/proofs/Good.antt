@@ -1,6 +1,7 @@
 -- A good job of an accepted plan: it carries the plan's file, and its record replays to a table that stands for a run that begins. A start
 -- gives one, an entry that may come gives the next one, and any other entry is refused.
-use mathlib.Core.Path.{◌≡◌, refl, ap, subst, ◌∙◌}
+use Rattle.std.specs.Prelude.{Ok}
+use mathlib.Core.Path.{◌≡◌, refl, ap, ◌∙◌}
 use mathlib.Core.Bool.{Bool, true, false, cond}
 use mathlib.Core.List.{List, [], ◌∷◌, ◌++◌, map}
 use Prim.Native.Nat.{ℕ, zero, suc, ◌+◌, ◌-◌, ◌*◌, ◌<◌}
@@ -13,15 +14,13 @@ use Rattle.plan.specs.PlanFile.{most_bytes, Runnable}
 use Rattle.plan.specs.Reading.{bytes_of, read_of}
 use Rattle.plan.specs.Tree.{process_of}
 use Rattle.plan.specs.declared.Layout.{Layout}
-use Rattle.plan.specs.declared.Reading.TheVariants.{Accepted}
 use Rattle.plan.proofs.Demand1.{demand1, runnable}
 use Rattle.state.specs.State.{told_by, may_come, fresh_table, replay, entries_from, state_after}
-use Rattle.job.specs.Job.{most_windows, saying, refusal, fresh_job, plan_of, tidy, untimed, with_entry, after_entry, take_with, take_on, take_of}
+use Rattle.job.specs.Job.{most_windows, saying, refusal, fresh_job, plan_of, tidy, untimed, with_entry, after_entry, take_after, take_with, take_on, take_of}
 use Rattle.job.specs.Offer.{run_entry, record_of, Sized}
 use Rattle.state.specs.declared.Entry.{Entry}
-use Rattle.job.specs.declared.Answer.TheVariants as answer
+use Rattle.job.specs.declared.Refusal.TheVariants as why
 use Rattle.job.specs.declared.Job.{Job}
-use Rattle.state.specs.declared.Replayed.{Replayed}
 use Rattle.job.proofs.Tidy.{Tidy}
 use Rattle.job.proofs.Areas.{padded_zeros, zeros_past}
 use Rattle.job.proofs.Outcomes.{zeros_at, stands_fresh}
@@ -42,7 +41,7 @@ pub map_snoc : (es : List Entry) (e : Entry) → map run_entry (es ++ (e ∷ [])
 map_snoc [] e = refl
 map_snoc (d ∷ es) e = ap (λ (w : Run). run_entry d ∷ w) (map_snoc es e)
 
-module _ (s : List ℕ) (l : Layout) (acc : read_of s ≡ Accepted l) where
+module _ (s : List ℕ) (l : Layout) (acc : read_of s ≡ Ok l) where
   abbrev types : List ℕ
   types = bytes_of s l.types
 
@@ -61,7 +60,7 @@ module _ (s : List ℕ) (l : Layout) (acc : read_of s ≡ Accepted l) where
     pub plain : untimed j ≡ true
     pub neat : Tidy j
     pub table : List ℕ
-    pub state : state_after types b j.entries j.taken ≡ record { ok = true; table = table }
+    pub state : state_after types b j.entries j.taken ≡ Ok table
 
   fresh_reached : Reached types b runs_on [] fresh_table
   fresh_reached = record { stands = stands_fresh; begins = (told_begins types b runs_on).start; below = tt }
@@ -69,9 +68,7 @@ module _ (s : List ℕ) (l : Layout) (acc : read_of s ≡ Accepted l) where
   -- the record begins a run, and the table stands for it
   pub good_reached : (j : Job) (g : Good j) → Reached types b runs_on (record_of j) g.table
   good_reached j g =
-      let es = entries_from j.entries 0 j.taken in
-      let x = follows types b runs_on es [] fresh_table fresh_reached (ap (λ (x : Replayed). x.ok) g.state) in
-      subst (Reached types b runs_on (record_of j)) (ap (λ (x : Replayed). x.table) g.state) x
+      follows types b runs_on (entries_from j.entries 0 j.taken) [] fresh_table g.table fresh_reached g.state
 
   unfoldable pub fresh_good : Good (fresh_job s)
   unfolding replay entries_from
@@ -88,15 +85,15 @@ module _ (s : List ℕ) (l : Layout) (acc : read_of s ≡ Accepted l) where
 
   module _ (j : Job) (g : Good j) (e : Entry) where
     -- an entry goes by whether it may come
-    taking : take_of j e ≡ cond (may_come types b g.table e.leaf e.outcome) (after_entry b g.table j e) (refusal 11 j)
+    taking : take_of j e ≡ cond (may_come types b g.table e.leaf e.outcome) (after_entry b g.table j e) (refusal why.Entry j)
     taking =
-        ap (λ (t : Bool). cond t (cond (tidy j) (take_on j e (read_of (plan_of j))) (refusal 11 j)) (refusal 11 j)) g.plain
-        ∙ ap (λ (t : Bool). cond t (take_on j e (read_of (plan_of j))) (refusal 11 j)) (tidy_holds j g.neat)
+        ap (λ (t : Bool). cond t (cond (tidy j) (take_on j e (read_of (plan_of j))) (refusal why.Entry j)) (refusal why.Entry j)) g.plain
+        ∙ ap (λ (t : Bool). cond t (take_on j e (read_of (plan_of j))) (refusal why.Entry j)) (tidy_holds j g.neat)
         ∙ ap (take_on j e) (ap read_of g.plan ∙ acc)
         ∙ ap (λ (p : List ℕ). take_with (bytes_of p l.types) (bytes_of p l.nodes) j e) g.plan
-        ∙ ap (λ (x : Replayed). cond x.ok (cond (may_come types b x.table e.leaf e.outcome) (after_entry b x.table j e) (refusal 11 j)) (refusal 11 j)) g.state
+        ∙ ap (take_after types b j e) g.state
 
-    pub not_taken : may_come types b g.table e.leaf e.outcome ≡ false → take_of j e ≡ refusal 11 j
+    pub not_taken : may_come types b g.table e.leaf e.outcome ≡ false → take_of j e ≡ refusal why.Entry j
     not_taken h = taking ∙ rw h
 
     module _ (h : may_come types b g.table e.leaf e.outcome ≡ true) where
@@ -107,7 +104,7 @@ module _ (s : List ℕ) (l : Layout) (acc : read_of s ≡ Accepted l) where
       arrived : Reached types b runs_on (record_of j ++ (run_entry e ∷ [])) after
       arrived = reached_more types b runs_on (record_of j) g.table e (good_reached j g) h
 
-      pub taken_so : take_of j e ≡ record { answer = answer.Told (saying (told_by b after)); job = with_entry j e }
+      pub taken_so : take_of j e ≡ record { answer = Ok (saying (told_by b after)); job = with_entry j e }
       taken_so = taking ∙ rw h
 
       pub room : 2 * j.taken + 1 < length j.entries

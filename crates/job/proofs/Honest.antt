@@ -1,5 +1,6 @@
 -- Wherever a fresh job stands after some entries it is honest: its table stands for its record, and the theorem on beginnings says what the
 -- table tells.
+use Rattle.std.specs.Prelude.{Ok}
 use mathlib.Core.Path.{◌≡◌, refl, ap, ◌∙◌}
 use mathlib.Core.Bool.{true, false}
 use mathlib.Core.List.{List}
@@ -11,7 +12,6 @@ use Rattle.process.specs.Process.{Status, ok, fail, Process, Run}
 use Rattle.process.specs.Depth.{most_undos}
 use Rattle.plan.specs.Reading.{read_of}
 use Rattle.plan.specs.declared.Layout.{Layout}
-use Rattle.plan.specs.declared.Reading.TheVariants.{Accepted}
 use Rattle.runs.specs.Cells.{Holds, ending, told_ended, told_next}
 use Rattle.runs.specs.declared.Ended.{Ended}
 use Rattle.runs.specs.declared.Ended.TheVariants as ended
@@ -20,6 +20,7 @@ use Rattle.job.specs.Offer.{Standing, status_number, record_of}
 use Rattle.job.specs.Demand2.{plan_process, Continues, Takes, EndsOrGoesOn, may_end, goes_on, Honest}
 use Rattle.job.specs.Numbers.{number_of, end_number, Refuses}
 use Rattle.state.specs.declared.Entry.{Entry}
+use Rattle.job.specs.declared.Refusal.TheVariants as why
 use Rattle.job.specs.declared.Told.{Told}
 use Rattle.job.specs.declared.Taken.{Taken}
 use Rattle.job.proofs.Good.{not_taken, taken_so, record_more}
@@ -38,7 +39,7 @@ end_told : (x : Ended) (t : Status) → x ≡ ending t → end_number (end_of x)
 end_told x ok e = rw e
 end_told x fail e = rw e
 
-module _ (s : List ℕ) (l : Layout) (acc : read_of s ≡ Accepted l) (x : Standing) (f : Fine s l acc x) where
+module _ (s : List ℕ) (l : Layout) (acc : read_of s ≡ Ok l) (x : Standing) (f : Fine s l acc x) where
   abbrev P : Process
   P = plan_process s l
 
@@ -59,7 +60,7 @@ module _ (s : List ℕ) (l : Layout) (acc : read_of s ≡ Accepted l) (x : Stand
     where
       go : (may s l acc x f e ≡ true) ⊎ (may s l acc x f e ≡ false) → Refuses 11 x.job (take_of x.job e)
       go (inl h) = absurd (n ((continues s l acc x f e).0 h))
-      go (inr h) = refuses_so 11 x.job (take_of x.job e) (not_taken s l acc x.job f.good e h)
+      go (inr h) = refuses_so why.Entry x.job (take_of x.job e) (not_taken s l acc x.job f.good e h)
 
   abbrev T : Told
   T = saying (record { ended = told_ended most_undos P w; next = told_next most_undos P w })

@@ -1,5 +1,6 @@
 -- Wherever a fresh timed job stands after some timed entries, it is an untimed standing given hours: the untimed runner has taken the record entry by
 -- entry, and the record can have come by the job's minute. From this, what is promised of the next entry.
+use Rattle.std.specs.Prelude.{Result, Ok, Err}
 use mathlib.Core.Path.{◌≡◌, refl, sym, ap, subst, ◌∙◌}
 use mathlib.Core.Bool.{true, false}
 use mathlib.Core.List.{List, [], ◌∷◌, ◌++◌}
@@ -7,19 +8,18 @@ use mathlib.Core.Logic.{◌⊎◌, inl, inr}
 use mathlib.Core.Option.{none, some-ne-none}
 use Prim.Native.Nat.{ℕ, ◌+◌, ◌*◌, ◌≤◌, ◌<◌}
 use native.Mathlib.Omega.{arith}
-use lib.Dec.{eqb}
 use lib.ListN.{length, set}
 use lib.Seq.{get_or-set_other}
-use borrow.Author.Tests.{eqb-true}
 use Rattle.blocks.proofs.Bounded.{decide}
 use Rattle.hours.specs.Windows.{WindowFile}
-use Rattle.hours.specs.Hours.{OpenAt, leaf_window, inside, entry_fault}
+use Rattle.hours.specs.Hours.{OpenAt, leaf_window, inside, entry_checked}
+use Rattle.hours.specs.declared.Fault as hours
+use Rattle.hours.specs.declared.Fault.TheVariants.{Early, Outside}
 use Rattle.hours.specs.Kept.{leaf_of, came_by}
 use Rattle.hours.proofs.KeepsWindows.{keeps_windows}
 use Rattle.hours.proofs.Kept.{came_none, came_same, came_more, fault_none, no_fault, fault_early, fault_outside}
 use Rattle.plan.specs.Reading.{bytes_of, read_of}
 use Rattle.plan.specs.declared.Layout.{Layout}
-use Rattle.plan.specs.declared.Reading.TheVariants.{Accepted}
 use Rattle.state.specs.State.{told_by, entries_from}
 use Rattle.state.specs.declared.Entry.{Entry}
 use Rattle.job.specs.Job.{saying, refusal, with_entry, take_of}
@@ -27,7 +27,8 @@ use Rattle.job.specs.Numbers.{number_of, Refuses}
 use Rattle.job.specs.Offer.{Standing, on_answer, next, offer, TakesAll, no_more, one_more, started}
 use Rattle.job.specs.Timed.{take_timed_of, with_hours}
 use Rattle.job.specs.TimedRunner.{TimedEntry, next_timed, offer_timed, started_timed, KeepsHours}
-use Rattle.job.specs.declared.Answer.TheVariants as answer
+use Rattle.job.specs.declared.Refusal.{Refusal}
+use Rattle.job.specs.declared.Refusal.TheVariants as why
 use Rattle.job.specs.declared.Job.{Job}
 use Rattle.job.specs.declared.Taken.{Taken}
 use Rattle.job.specs.declared.Told.{Told}
@@ -47,7 +48,7 @@ unfolding offer
 takes_offered x y [] no_more = refl
 takes_offered x y (d ∷ es) (one_more k t) = takes_offered (next x d) y es t
 
-module _ (s : List ℕ) (l : Layout) (acc : read_of s ≡ Accepted l) (w : List ℕ) (f : WindowFile l.types.len w) where
+module _ (s : List ℕ) (l : Layout) (acc : read_of s ≡ Ok l) (w : List ℕ) (f : WindowFile l.types.len w) where
   abbrev N : List ℕ
   N = bytes_of s l.nodes
 
@@ -93,16 +94,16 @@ module _ (s : List ℕ) (l : Layout) (acc : read_of s ≡ Accepted l) (w : List 
       abbrev m : ℕ
       m = t.minute
 
-      abbrev fault : ℕ
-      fault = entry_fault w N e.leaf m0 m
+      abbrev hour : Result Unit hours.Fault
+      hour = entry_checked w N e.leaf m0 m
 
       -- what is then said goes by the timed runner's answer
       said : Taken → Standing
       said a = on_answer a.answer a.job y.told
 
-      refused_stays : (n : ℕ) → take_timed_of x.job e m ≡ refusal n x.job → Kept (next_timed x t)
+      refused_stays : (r : Refusal) → take_timed_of x.job e m ≡ refusal r x.job → Kept (next_timed x t)
       unfolding said
-      refused_stays n h = subst Kept (sym (ap said h)) stays
+      refused_stays r h = subst Kept (sym (ap said h)) stays
 
       module _ (h : may s l acc y fine e ≡ true) where
         abbrev told_e : Told
@@ -112,7 +113,7 @@ module _ (s : List ℕ) (l : Layout) (acc : read_of s ≡ Accepted l) (w : List 
         abbrev y' : Standing
         y' = record { job = with_entry j e; told = told_e }
 
-        taken_e : take_of j e ≡ record { answer = answer.Told told_e; job = with_entry j e }
+        taken_e : take_of j e ≡ record { answer = Ok told_e; job = with_entry j e }
         taken_e = taken_so s l acc j fine.good e h
 
         moved : next y e ≡ y'
@@ -122,7 +123,7 @@ module _ (s : List ℕ) (l : Layout) (acc : read_of s ≡ Accepted l) (w : List 
         record_room : 2 * j.taken + 1 < length j.entries
         record_room = room s l acc j fine.good e h
 
-        came_e : fault ≡ 0 → came_by w N (with_entry j e).entries (j.taken + 1) m ≡ true
+        came_e : hour ≡ Ok tt → came_by w N (with_entry j e).entries (j.taken + 1) m ≡ true
         came_e z =
             let r = j.entries in
             let r' = longer r j.taken e.leaf e.outcome record_room in
@@ -132,7 +133,7 @@ module _ (s : List ℕ) (l : Layout) (acc : read_of s ≡ Accepted l) (w : List 
             let last : leaf_of r' j.taken ≡ e.leaf = ap (λ (d : Entry). d.leaf) (here r j.taken e.leaf e.outcome record_room) in
             came_more l.types.len w f N r' j.taken m0 m (sym (came_same w N r r' j.taken m0 before) ∙ came) late (ap (λ (n : ℕ). inside (leaf_window w N n) m) last ∙ open_then)
 
-        goes_on : fault ≡ 0 → Kept (next_timed x t)
+        goes_on : hour ≡ Ok tt → Kept (next_timed x t)
         unfolding said
         goes_on z = record {
           untimed = y';
@@ -146,16 +147,16 @@ module _ (s : List ℕ) (l : Layout) (acc : read_of s ≡ Accepted l) (w : List 
           is = ap said (taken_at s l acc w f j fine.good m0 came e m told_e (with_entry j e) taken_e z);
         }
 
-        is_refused : (n : ℕ) → fault ≡ n → eqb n 0 ≡ false → take_timed_of x.job e m ≡ refusal n x.job
-        is_refused n z d = faulted_at s l acc w f j fine.good m0 came e m told_e (with_entry j e) taken_e n z d
+        is_refused : (q : hours.Fault) → hour ≡ Err q → take_timed_of x.job e m ≡ refusal (why.Hours q) x.job
+        is_refused q z = faulted_at s l acc w f j fine.good m0 came e m told_e (with_entry j e) taken_e q z
 
       next_given : Kept (next_timed x t)
-      next_given = go (decide (may s l acc y fine e)) (decide (eqb fault 0))
+      next_given = go (decide (may s l acc y fine e)) hour refl
         where
-          go : (may s l acc y fine e ≡ true) ⊎ (may s l acc y fine e ≡ false) → (eqb fault 0 ≡ true) ⊎ (eqb fault 0 ≡ false) → Kept (next_timed x t)
-          go (inl h) (inl z) = goes_on h (eqb-true fault 0 z)
-          go (inl h) (inr z) = refused_stays fault (is_refused h fault refl z)
-          go (inr h) z = refused_stays 11 (refused_at s l acc w f j fine.good m0 came e m (not_taken s l acc j fine.good e h))
+          go : (may s l acc y fine e ≡ true) ⊎ (may s l acc y fine e ≡ false) → (q : Result Unit hours.Fault) → hour ≡ q → Kept (next_timed x t)
+          go (inl h) (Ok u) z = goes_on h z
+          go (inl h) (Err q) z = refused_stays (why.Hours q) (is_refused h q z)
+          go (inr h) q z = refused_stays why.Entry (refused_at s l acc w f j fine.good m0 came e m (not_taken s l acc j fine.good e h))
 
       -- the untimed runner takes the entry where it may come
       may_come_lem : number_of (take_of j e).answer ≡ none → may s l acc y fine e ≡ true
@@ -170,17 +171,17 @@ module _ (s : List ℕ) (l : Layout) (acc : read_of s ≡ Accepted l) (w : List 
         where
           go : (may s l acc y fine e ≡ true) ⊎ (may s l acc y fine e ≡ false) → Refuses 11 x.job (take_timed_of x.job e m)
           go (inl h) = absurd (n (ap (λ (a : Taken). number_of a.answer) (taken_e h)))
-          go (inr h) = refuses_so 11 x.job (take_timed_of x.job e m) (refused_at s l acc w f j fine.good m0 came e m (not_taken s l acc j fine.good e h))
+          go (inr h) = refuses_so why.Entry x.job (take_timed_of x.job e m) (refused_at s l acc w f j fine.good m0 came e m (not_taken s l acc j fine.good e h))
 
       too_early_at : number_of (take_of j e).answer ≡ none → m < m0 → Refuses 21 x.job (take_timed_of x.job e m)
-      too_early_at n early = refuses_so 21 x.job (take_timed_of x.job e m) (is_refused (may_come_lem n) 21 (fault_early w N e.leaf m0 m early) refl)
+      too_early_at n early = refuses_so (why.Hours Early) x.job (take_timed_of x.job e m) (is_refused (may_come_lem n) Early (fault_early w N e.leaf m0 m early))
 
       outside_at : number_of (take_of j e).answer ≡ none → m0 ≤ m → (OpenAt w N e.leaf m → ⊥) → Refuses 22 x.job (take_timed_of x.job e m)
       outside_at n late shut = go (decide (inside (leaf_window w N e.leaf) m))
         where
           go : (inside (leaf_window w N e.leaf) m ≡ true) ⊎ (inside (leaf_window w N e.leaf) m ≡ false) → Refuses 22 x.job (take_timed_of x.job e m)
           go (inl i) = absurd (shut ((keeps_windows.tells l.types.len w N e.leaf m f).0 i))
-          go (inr i) = refuses_so 22 x.job (take_timed_of x.job e m) (is_refused (may_come_lem n) 22 (fault_outside w N e.leaf m0 m late i) refl)
+          go (inr i) = refuses_so (why.Hours Outside) x.job (take_timed_of x.job e m) (is_refused (may_come_lem n) Outside (fault_outside w N e.leaf m0 m late i))
 
       takes_at : number_of (take_of j e).answer ≡ none → m0 ≤ m → OpenAt w N e.leaf m
           → take_timed_of x.job e m ≡ record { answer = (take_of j e).answer; job = with_hours w (take_of j e).job m }

@@ -20,3 +20,4 @@ pub mod Hourly
 pub mod Hours
 pub mod RealTimed
 pub mod TimedRunner
+pub mod Refused

@@ -1,5 +1,6 @@
 -- Demand 2 of whole lists: of each entry it says that it is taken, continues the record and ends it, or is refused and changes nothing; so of
 -- lists by induction, from wherever a fresh job stands after some entries.
+use Rattle.std.specs.Prelude.{Ok}
 use mathlib.Core.Path.{◌≡◌, refl, sym, ap, ap₂, subst, ◌∙◌}
 use mathlib.Core.Bool.{true, false}
 use mathlib.Core.List.{List, [], ◌∷◌, ◌++◌, map, append-nil, append_assoc}
@@ -10,7 +11,6 @@ use Rattle.blocks.proofs.Bounded.{decide}
 use Rattle.process.specs.Process.{Process, entry, Run}
 use Rattle.plan.specs.Reading.{read_of}
 use Rattle.plan.specs.declared.Layout.{Layout}
-use Rattle.plan.specs.declared.Reading.TheVariants.{Accepted}
 use Rattle.runs.specs.Beginnings.{Begins}
 use Rattle.state.specs.State.{entries_from}
 use Rattle.state.specs.declared.Entry.{Entry}
@@ -38,7 +38,7 @@ data Answered (P : Process) (x : Standing) (e : Entry) : Type 0 where
       → Continues P (record_of x.job) e → entries_of (next x e).job ≡ entries_of x.job ++ (e ∷ []) → Answered P x e
   refused : number_of (take_of x.job e).answer ≡ some 11 → ((es : List Entry) → if_taken (take_of x.job e).answer e es ≡ es) → next x e ≡ x → Answered P x e
 
-module _ (s : List ℕ) (l : Layout) (acc : read_of s ≡ Accepted l) where
+module _ (s : List ℕ) (l : Layout) (acc : read_of s ≡ Ok l) where
   abbrev P : Process
   P = plan_process s l
 

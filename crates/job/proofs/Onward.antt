@@ -1,12 +1,12 @@
 -- Wherever a fresh job stands after some entries, the run may end or a leaf of the plan, not in the record, is told as next: of the two that
 -- Demand 2 says are told, the second is a leaf that continues the record.
+use Rattle.std.specs.Prelude.{Ok}
 use mathlib.Core.Path.{◌≡◌}
 use mathlib.Core.List.{List}
 use mathlib.Core.Logic.{◌⊎◌, inl, inr}
 use Prim.Native.Nat.{ℕ}
 use Rattle.plan.specs.Reading.{bytes_of, read_of}
 use Rattle.plan.specs.declared.Layout.{Layout}
-use Rattle.plan.specs.declared.Reading.TheVariants.{Accepted}
 use Rattle.job.specs.Offer.{Standing, record_of}
 use Rattle.job.specs.Demand2.{EndsOrGoesOn, may_end, goes_on}
 use Rattle.job.specs.PromisedEnd.{EndsHere, TellsLeaf}
@@ -15,7 +15,7 @@ use Rattle.job.proofs.Standing.{Fine}
 use Rattle.job.proofs.Honest.{honest}
 use Rattle.job.proofs.Unused.{next_unused}
 
-module _ (s : List ℕ) (l : Layout) (acc : read_of s ≡ Accepted l) (x : Standing) (f : Fine s l acc x) where
+module _ (s : List ℕ) (l : Layout) (acc : read_of s ≡ Ok l) (x : Standing) (f : Fine s l acc x) where
   pub ends_or_tells : EndsHere x ⊎ TellsLeaf (bytes_of s l.nodes) x
   ends_or_tells = go (honest s l acc x f).one_of
     where

@@ -15,15 +15,15 @@ use Rattle.plan.specs.PlanFile.{Runnable}
 use Rattle.plan.specs.Tree.{leaf_kind, leaf_of, composite_of, process_at, process_of}
 use Rattle.nodes.proofs.Fold.{node_ind, fold_leaf, fold_node}
 use Rattle.plan.proofs.Tree.{parts_smaller}
-use Rattle.runs.specs.Cells.{Outcomes, ending, none_run, outcomes_after, told_ended, told_next}
+use Rattle.runs.specs.Cells.{Outcomes, ended_of, ending, none_run, outcomes_after, told_ended, told_next}
 use Rattle.runs.specs.ThreeLevels.{told_three, cells_three}
 use Rattle.runs.proofs.ThreeLevels.{three_levels_lem}
-use Rattle.state.specs.State.{outcome_of, leaf_cells, node_cells, cells_at, told_by, fresh_table}
+use Rattle.state.specs.State.{leaf_cells, node_cells, cells_at, told_by, fresh_table}
 use Rattle.job.specs.Offer.{status_number}
 
 -- the outcomes that a table has
 abbrev pub outcomes : List ℕ → Outcomes
-outcomes table n = outcome_of (get_or table n 0)
+outcomes table n = ended_of (get_or table n 0)
 
 -- the table stands for the run w
 pub record Stands (w : Run) (table : List ℕ) : Type 0 where
@@ -36,9 +36,9 @@ zeros_at (suc m) zero = refl
 zeros_at (suc m) (suc n) = zeros_at m n
 
 pub stands_fresh : Stands [] fresh_table
-stands_fresh = record { long = refl; same = fun_ext (λ n. ap outcome_of (zeros_at 63 n)) }
+stands_fresh = record { long = refl; same = fun_ext (λ n. ap ended_of (zeros_at 63 n)) }
 
-ending_of : (s : Status) → outcome_of (status_number s) ≡ ending s
+ending_of : (s : Status) → ended_of (status_number s) ≡ ending s
 ending_of ok = refl
 ending_of fail = refl
 
@@ -52,9 +52,9 @@ stands_more w table n s h t = record {
     at : (i : ℕ) (q : Bool) → eqb n i ≡ q → outcomes (set table n (status_number s)) i ≡ cond q (ending s) (outcomes_after none_run w i)
     at i true e =
         let z = eqb-true n i e in
-        rw (← z) (ap outcome_of (get_or-set_same table n (status_number s) 0 (omega (arith, t.long))) ∙ ending_of s)
+        rw (← z) (ap ended_of (get_or-set_same table n (status_number s) 0 (omega (arith, t.long))) ∙ ending_of s)
     at i false e =
-        ap outcome_of (get_or-set_other table n i (status_number s) 0 (λ z. eqb-false n i e (sym z))) ∙ ap (λ (f : Outcomes). f i) t.same
+        ap ended_of (get_or-set_other table n i (status_number s) 0 (λ z. eqb-false n i e (sym z))) ∙ ap (λ (f : Outcomes). f i) t.same
 
 module _ (types b : List ℕ) (r : Runnable types b) where
   -- the fold over the nodes is the fold over the process

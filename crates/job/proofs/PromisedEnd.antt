@@ -1,5 +1,6 @@
 -- The promise of an end: the record of a job that stands after some entries begins a run, and what completes that run is taken, in no more
 -- entries than there are unused leaves.
+use Rattle.std.specs.Prelude.{Ok}
 use mathlib.Core.Path.{◌≡◌}
 use mathlib.Core.List.{List, [], map, append-nil}
 use Prim.Native.Nat.{ℕ}
@@ -8,7 +9,6 @@ use lib.ListN.{length-map}
 use Rattle.process.specs.Process.{Run}
 use Rattle.plan.specs.Reading.{bytes_of, read_of}
 use Rattle.plan.specs.declared.Layout.{Layout}
-use Rattle.plan.specs.declared.Reading.TheVariants.{Accepted}
 use Rattle.job.specs.Offer.{Standing, offer, started, record_of}
 use Rattle.job.specs.Lists.{offered}
 use Rattle.job.specs.PromisedEnd.{unused_leaves, ReachesEnd, PromisedEnd}
@@ -18,7 +18,7 @@ use Rattle.job.proofs.Unused.{few_follow}
 use Rattle.job.proofs.Onward.{ends_or_tells}
 use Rattle.job.proofs.TakesAll.{takes_to_end}
 
-module _ (s : List ℕ) (l : Layout) (acc : read_of s ≡ Accepted l) (x : Standing) (f : Fine s l acc x) where
+module _ (s : List ℕ) (l : Layout) (acc : read_of s ≡ Ok l) (x : Standing) (f : Fine s l acc x) where
   abbrev w : Run
   w = record_of x.job
 

@@ -1,7 +1,8 @@
 -- A job that passes the checks of an entry is one that a start and entries give: its own record, offered to the fresh job of its plan,
 -- leads back to it. So a job that none gives is refused.
+use Rattle.std.specs.Prelude.{Result, Ok, Err}
 use mathlib.Core.Path.{◌≡◌, refl, sym, ap, ap₂, subst, ◌∙◌}
-use mathlib.Core.Bool.{Bool, true, false, cond, true≢false}
+use mathlib.Core.Bool.{Bool, true, false, cond}
 use mathlib.Core.List.{List, [], ◌∷◌, ◌++◌}
 use mathlib.Core.Logic.{◌⊎◌, inl, inr}
 use Prim.Native.Nat.{ℕ, zero, suc, ◌+◌, ◌-◌, ◌*◌, ◌≤◌, ◌<◌}
@@ -14,23 +15,21 @@ use Rattle.blocks.proofs.Bounded.{decide}
 use Rattle.plan.specs.PlanFile.{most_bytes}
 use Rattle.plan.specs.Reading.{bytes_of, read_of}
 use Rattle.plan.specs.declared.Layout.{Layout}
-use Rattle.plan.specs.declared.Reading.{Reading}
-use Rattle.plan.specs.declared.Reading.TheVariants as reading
+use Rattle.plan.specs.declared.Fault.{Fault}
 use Rattle.state.specs.State.{told_by, may_come, fresh_table, replay, entry_at, entries_from, state_after}
 use Rattle.job.specs.Demand2.{plan_process, Continues}
-use Rattle.job.specs.Job.{saying, refusal, untimed_job, plan_of, tidy, untimed, with_entry, take_with, take_on, take_of}
+use Rattle.job.specs.Job.{Answer, saying, refusal, untimed_job, plan_of, tidy, untimed, with_entry, take_after, take_with, take_on, take_of}
 use Rattle.job.specs.Numbers.{Refuses}
 use Rattle.job.specs.Offer.{Standing, on_answer, next, offer, started, record_of, Real, Sized}
 use Rattle.state.specs.declared.Entry.{Entry}
-use Rattle.job.specs.declared.Answer.{Answer}
-use Rattle.job.specs.declared.Answer.TheVariants as answer
+use Rattle.job.specs.declared.Refusal.TheVariants as why
 use Rattle.job.specs.declared.Job.{Job}
 use Rattle.job.specs.declared.Taken.{Taken}
-use Rattle.state.specs.declared.Replayed.{Replayed}
 use Rattle.job.proofs.Tidy.{Tidy, tidy_says, untimed_is}
 use Rattle.job.proofs.Areas.{zero_past, padded_back}
 use Rattle.job.proofs.Outcomes.{zeros_at}
 use Rattle.job.proofs.Entries.{last_entry}
+use Rattle.job.proofs.Followed.{err_ok}
 use Rattle.job.proofs.Good.{Good, fresh_good, not_taken, taken_so, next_good}
 use Rattle.job.proofs.Standing.{refuses_so, continues, started_fine, offered_fine}
 
@@ -92,25 +91,25 @@ entries_split r i (suc k) m =
     rw e (ap (λ (es : List Entry). entry_at r i ∷ es) (entries_split r (i + 1) k m ∙ rw f))
 
 -- an entry of a record that replays might come where it stands
-replay_at : (types b : List ℕ) (xs : List Entry) (e : Entry) (ys : List Entry) (table after : List ℕ)
-    → (replay types b table (xs ++ (e ∷ ys))).ok ≡ true → replay types b table xs ≡ record { ok = true; table = after }
+replay_at : (types b : List ℕ) (xs : List Entry) (e : Entry) (ys : List Entry) (table after last : List ℕ)
+    → replay types b table (xs ++ (e ∷ ys)) ≡ Ok last → replay types b table xs ≡ Ok after
     → may_come types b after e.leaf e.outcome ≡ true
 unfolding replay
-replay_at types b [] e ys table after h k = go (decide (may_come types b table e.leaf e.outcome))
+replay_at types b [] e ys table after last h k = go (decide (may_come types b table e.leaf e.outcome))
   where
     same : table ≡ after
-    same = ap (λ (x : Replayed). x.table) k
+    same = cc
 
     go : (may_come types b table e.leaf e.outcome ≡ true) ⊎ (may_come types b table e.leaf e.outcome ≡ false) → may_come types b after e.leaf e.outcome ≡ true
     go (inl m) = rw same at m
-    go (inr m) = absurd (true≢false (sym (rw m at h)))
-replay_at types b (d ∷ xs) e ys table after h k = go (replay_at types b xs e ys (set table d.leaf d.outcome) after) (decide (may_come types b table d.leaf d.outcome))
+    go (inr m) = absurd (err_ok (rw m at h))
+replay_at types b (d ∷ xs) e ys table after last h k = go (replay_at types b xs e ys (set table d.leaf d.outcome) after last) (decide (may_come types b table d.leaf d.outcome))
   where
-    go : ((replay types b (set table d.leaf d.outcome) (xs ++ (e ∷ ys))).ok ≡ true → replay types b (set table d.leaf d.outcome) xs ≡ record { ok = true; table = after } → may_come types b after e.leaf e.outcome ≡ true)
+    go : (replay types b (set table d.leaf d.outcome) (xs ++ (e ∷ ys)) ≡ Ok last → replay types b (set table d.leaf d.outcome) xs ≡ Ok after → may_come types b after e.leaf e.outcome ≡ true)
         → (may_come types b table d.leaf d.outcome ≡ true) ⊎ (may_come types b table d.leaf d.outcome ≡ false)
         → may_come types b after e.leaf e.outcome ≡ true
     go rest (inl m) = rest (rw m at h) (rw m at k)
-    go rest (inr m) = absurd (true≢false (sym (rw m at h)))
+    go rest (inr m) = absurd (err_ok (rw m at h))
 
 -- one entry more, offered after the others
 offer_snoc : (x : Standing) (es : List Entry) (e : Entry) → offer x (es ++ (e ∷ [])) ≡ next (offer x es) e
@@ -123,11 +122,11 @@ pub next_job : (x : Standing) (e : Entry) → (next x e).job ≡ (take_of x.job 
 next_job x e = go (take_of x.job e).answer
   where
     go : (a : Answer) → (on_answer a (take_of x.job e).job x.told).job ≡ (take_of x.job e).job
-    go (answer.Told t) = refl
-    go (answer.Refused n) = refl
+    go (Ok t) = refl
+    go (Err r) = refl
 
-module _ (s : List ℕ) (l : Layout) (acc : read_of s ≡ reading.Accepted l) (r : List ℕ) (taken : ℕ) (few : taken < 63)
-    (whole : (state_after (bytes_of s l.types) (bytes_of s l.nodes) r taken).ok ≡ true) where
+module _ (s : List ℕ) (l : Layout) (acc : read_of s ≡ Ok l) (r : List ℕ) (taken : ℕ) (few : taken < 63)
+    (last : List ℕ) (whole : state_after (bytes_of s l.types) (bytes_of s l.nodes) r taken ≡ Ok last) where
   -- the job of the first k entries
   abbrev pub at : ℕ → Job
   at k = untimed_job (s ++ replicate (most_bytes - length s) 0) (length s) (firsts r k) k
@@ -146,7 +145,7 @@ module _ (s : List ℕ) (l : Layout) (acc : read_of s ≡ reading.Accepted l) (r
       let split : entries_from r 0 taken ≡ entries_from r 0 k ++ (entry_at r k ∷ entries_from r (k + 1) rest) =
       ap (entries_from r 0) e ∙ entries_split r 0 k (suc rest) ∙ rw z in
       let same : entries_from r 0 k ≡ entries_from (firsts r k) 0 k = entries_same r (firsts r k) 0 k (λ m i. sym (firsts_in r k m (omega arith) (omega arith))) in
-      replay_at (bytes_of s l.types) (bytes_of s l.nodes) (entries_from r 0 k) (entry_at r k) (entries_from r (k + 1) rest) fresh_table g.table (rw split at whole) (rw same g.state)
+      replay_at (bytes_of s l.types) (bytes_of s l.nodes) (entries_from r 0 k) (entry_at r k) (entries_from r (k + 1) rest) fresh_table g.table last (rw split at whole) (rw same g.state)
 
   pub at_more : (k : ℕ) → with_entry (at k) (entry_at r k) ≡ at (suc k)
   unfolding firsts
@@ -188,13 +187,13 @@ tidy_entries j z t =
         let k = ltb-false i (2 * j.taken) e in
         firsts_out j.entries j.taken i k ∙ sym (zero_past j.entries (2 * j.taken) t.entries_zeros i (omega (arith, z.entries)) k)
 
-pub real_job : (j : Job) (l : Layout) → Sized j → untimed j ≡ true → Tidy j → read_of (plan_of j) ≡ reading.Accepted l
-    → (state_after (bytes_of (plan_of j) l.types) (bytes_of (plan_of j) l.nodes) j.entries j.taken).ok ≡ true → Real j
-real_job j l z p t acc whole =
+pub real_job : (j : Job) (l : Layout) → Sized j → untimed j ≡ true → Tidy j → read_of (plan_of j) ≡ Ok l
+    → (last : List ℕ) → state_after (bytes_of (plan_of j) l.types) (bytes_of (plan_of j) l.nodes) j.entries j.taken ≡ Ok last → Real j
+real_job j l z p t acc last whole =
     let s = plan_of j in
-    let x = led s l acc j.entries j.taken t.few whole j.taken (omega arith) in
+    let x = led s l acc j.entries j.taken t.few last whole j.taken (omega arith) in
     let long : length s ≡ j.file_len = length-take-le j.file_len j.file (omega (arith, z.file, t.file_fits)) in
-    let same : at s l acc j.entries j.taken t.few whole j.taken ≡ j = rw (tidy_file j z t, tidy_entries j z t, long) (untimed_is j z p) in
+    let same : at s l acc j.entries j.taken t.few last whole j.taken ≡ j = rw (tidy_file j z t, tidy_entries j z t, long) (untimed_is j z p) in
     record { file = s; layout = l; accepted = acc; entries = entries_from j.entries 0 j.taken; is = sym (x.there ∙ same) }
 
 -- a real job is good
@@ -204,64 +203,60 @@ real_good j r =
     subst (Good r.file r.layout r.accepted) (sym r.is) f.good
 
 -- every job is refused, or good for its own plan file
-pub refused_or_good : (j : Job) → Sized j → (e : Entry) → (take_of j e ≡ refusal 11 j) ⊎ ((l : Layout) × (acc : read_of (plan_of j) ≡ reading.Accepted l) × Good (plan_of j) l acc j)
+pub refused_or_good : (j : Job) → Sized j → (e : Entry) → (take_of j e ≡ refusal why.Entry j) ⊎ ((l : Layout) × (acc : read_of (plan_of j) ≡ Ok l) × Good (plan_of j) l acc j)
 refused_or_good j z e = go (decide (untimed j)) (decide (tidy j))
   where
     Found : Type 0
-    Found = (l : Layout) × (acc : read_of (plan_of j) ≡ reading.Accepted l) × Good (plan_of j) l acc j
+    Found = (l : Layout) × (acc : read_of (plan_of j) ≡ Ok l) × Good (plan_of j) l acc j
 
-    state : Layout → Replayed
-    state l = state_after (bytes_of (plan_of j) l.types) (bytes_of (plan_of j) l.nodes) j.entries j.taken
+    on_state : untimed j ≡ true → Tidy j → (l : Layout) → read_of (plan_of j) ≡ Ok l
+        → (x : Result (List ℕ) (List ℕ)) → state_after (bytes_of (plan_of j) l.types) (bytes_of (plan_of j) l.nodes) j.entries j.taken ≡ x
+        → (take_with (bytes_of (plan_of j) l.types) (bytes_of (plan_of j) l.nodes) j e ≡ refusal why.Entry j) ⊎ Found
+    on_state p t l acc (Ok table) h = inr (l, acc, record { plan = refl; sized = z; plain = p; neat = t; table = table; state = h })
+    on_state p t l acc (Err table) h = inl (ap (take_after (bytes_of (plan_of j) l.types) (bytes_of (plan_of j) l.nodes) j e) h)
 
-    on_state : untimed j ≡ true → Tidy j → (l : Layout) → read_of (plan_of j) ≡ reading.Accepted l → ((state l).ok ≡ true) ⊎ ((state l).ok ≡ false)
-        → (take_with (bytes_of (plan_of j) l.types) (bytes_of (plan_of j) l.nodes) j e ≡ refusal 11 j) ⊎ Found
-    on_state p t l acc (inl h) =
-        let whole : state l ≡ record { ok = true; table = (state l).table } = ap (λ (q : Bool). record { ok = q; table = (state l).table }) h in
-        inr (l, acc, record { plan = refl; sized = z; plain = p; neat = t; table = (state l).table; state = whole })
-    on_state p t l acc (inr h) = inl (rw h)
-
-    on_plan : untimed j ≡ true → Tidy j → (a : Reading) → read_of (plan_of j) ≡ a → (take_on j e a ≡ refusal 11 j) ⊎ Found
-    on_plan p t (reading.Accepted l) acc = on_state p t l acc (decide (state l).ok)
-    on_plan p t (reading.Refused k) acc = inl refl
+    on_plan : untimed j ≡ true → Tidy j → (a : Result Layout Fault) → read_of (plan_of j) ≡ a → (take_on j e a ≡ refusal why.Entry j) ⊎ Found
+    on_plan p t (Ok l) acc = on_state p t l acc _ refl
+    on_plan p t (Err f) acc = inl refl
 
     tested : Bool → Bool → Taken
-    tested p t = cond p (cond t (take_on j e (read_of (plan_of j))) (refusal 11 j)) (refusal 11 j)
+    tested p t = cond p (cond t (take_on j e (read_of (plan_of j))) (refusal why.Entry j)) (refusal why.Entry j)
 
-    go : (untimed j ≡ true) ⊎ (untimed j ≡ false) → (tidy j ≡ true) ⊎ (tidy j ≡ false) → (take_of j e ≡ refusal 11 j) ⊎ Found
+    go : (untimed j ≡ true) ⊎ (untimed j ≡ false) → (tidy j ≡ true) ⊎ (tidy j ≡ false) → (take_of j e ≡ refusal why.Entry j) ⊎ Found
     go (inl p) (inl h) = elim (on_plan p (tidy_says j h) (read_of (plan_of j)) refl) [ inl q ↦ inl (ap₂ tested p h ∙ q) | inr g ↦ inr g ]
     go (inl p) (inr h) = inl (ap₂ tested p h)
     go (inr p) t = inl (ap (λ (q : Bool). tested q (tidy j)) p)
 
 -- what is good for its own plan file is real
-unfoldable pub good_real : (j : Job) → Sized j → (l : Layout) (acc : read_of (plan_of j) ≡ reading.Accepted l) → Good (plan_of j) l acc j → Real j
+unfoldable pub good_real : (j : Job) → Sized j → (l : Layout) (acc : read_of (plan_of j) ≡ Ok l) → Good (plan_of j) l acc j → Real j
 unfolding real_job
-good_real j z l acc g = real_job j l z g.plain g.neat acc (ap (λ (x : Replayed). x.ok) g.state)
+good_real j z l acc g = real_job j l z g.plain g.neat acc g.table g.state
 
 -- a job that is not real is refused
 pub false_refused : (j : Job) → Sized j → (Real j → ⊥) → (e : Entry) → Refuses 11 j (take_of j e)
 false_refused j z n e = go (refused_or_good j z e)
   where
-    go : (take_of j e ≡ refusal 11 j) ⊎ ((l : Layout) × (acc : read_of (plan_of j) ≡ reading.Accepted l) × Good (plan_of j) l acc j) → Refuses 11 j (take_of j e)
-    go (inl q) = refuses_so 11 j (take_of j e) q
+    go : (take_of j e ≡ refusal why.Entry j) ⊎ ((l : Layout) × (acc : read_of (plan_of j) ≡ Ok l) × Good (plan_of j) l acc j) → Refuses 11 j (take_of j e)
+    go (inl q) = refuses_so why.Entry j (take_of j e) q
     go (inr (l, acc, g)) = absurd (n (good_real j z l acc g))
 
 -- an entry is refused, or its job is real and it continues its record
-pub refused_or_permitted : (j : Job) → Sized j → (e : Entry) → (take_of j e ≡ refusal 11 j) ⊎ ((r : Real j) × Continues (plan_process r.file r.layout) (record_of j) e)
+pub refused_or_permitted : (j : Job) → Sized j → (e : Entry) → (take_of j e ≡ refusal why.Entry j) ⊎ ((r : Real j) × Continues (plan_process r.file r.layout) (record_of j) e)
 unfolding real_job good_real
 refused_or_permitted j z e = go (refused_or_good j z e)
   where
     Found : Type 0
     Found = (r : Real j) × Continues (plan_process r.file r.layout) (record_of j) e
 
-    on_entry : (l : Layout) (acc : read_of (plan_of j) ≡ reading.Accepted l) (g : Good (plan_of j) l acc j)
+    on_entry : (l : Layout) (acc : read_of (plan_of j) ≡ Ok l) (g : Good (plan_of j) l acc j)
         → (may_come (bytes_of (plan_of j) l.types) (bytes_of (plan_of j) l.nodes) g.table e.leaf e.outcome ≡ true)
         ⊎ (may_come (bytes_of (plan_of j) l.types) (bytes_of (plan_of j) l.nodes) g.table e.leaf e.outcome ≡ false)
-        → (take_of j e ≡ refusal 11 j) ⊎ Found
+        → (take_of j e ≡ refusal why.Entry j) ⊎ Found
     on_entry l acc g (inl m) =
         let x : Standing = record { job = j; told = saying (told_by (bytes_of (plan_of j) l.nodes) g.table) } in
         inr (good_real j z l acc g, (continues (plan_of j) l acc x (record { good = g; told = refl }) e).0 m)
     on_entry l acc g (inr m) = inl (not_taken (plan_of j) l acc j g e m)
 
-    go : (take_of j e ≡ refusal 11 j) ⊎ ((l : Layout) × (acc : read_of (plan_of j) ≡ reading.Accepted l) × Good (plan_of j) l acc j) → (take_of j e ≡ refusal 11 j) ⊎ Found
+    go : (take_of j e ≡ refusal why.Entry j) ⊎ ((l : Layout) × (acc : read_of (plan_of j) ≡ Ok l) × Good (plan_of j) l acc j) → (take_of j e ≡ refusal why.Entry j) ⊎ Found
     go (inl q) = inl q
     go (inr (l, acc, g)) = on_entry l acc g (decide _)

@@ -1,5 +1,6 @@
 -- A timed job that passes its own test, and whose plan and record are those of a real untimed job, is one that a start and timed entries give: each
 -- entry but the last at the earliest minute that it can have had, and the last at the job's. So the test decides which timed jobs are real.
+use Rattle.std.specs.Prelude.{Ok, Err}
 use mathlib.Core.Path.{◌≡◌, refl, sym, ap, subst, ◌∙◌}
 use mathlib.Core.Bool.{true}
 use mathlib.Core.List.{List, [], ◌∷◌, ◌++◌}
@@ -15,15 +16,11 @@ use Rattle.hours.specs.Kept.{leaf_of, soonest, came_by}
 use Rattle.hours.proofs.Kept.{kept_says, came_same, came_last, came_soonest, no_fault}
 use Rattle.plan.specs.Reading.{bytes_of, read_of}
 use Rattle.plan.specs.declared.Layout.{Layout}
-use Rattle.plan.specs.declared.Reading.TheVariants as reading
 use Rattle.state.specs.State.{told_by, entry_at, state_after}
-use Rattle.state.specs.declared.Replayed.{Replayed}
-use Rattle.job.specs.Job.{most_windows, most_minute, saying, plan_of, with_entry}
+use Rattle.job.specs.Job.{Answer, most_windows, most_minute, saying, plan_of, with_entry}
 use Rattle.job.specs.Offer.{Standing, on_answer, Real, Sized}
 use Rattle.job.specs.Timed.{struck_out, windows_of, timed_tidy, kept_on, timed_test, take_timed_of, with_hours}
 use Rattle.job.specs.TimedRunner.{TimedEntry, next_timed, offer_timed, started_timed, RealTimed}
-use Rattle.job.specs.declared.Answer.{Answer}
-use Rattle.job.specs.declared.Answer.TheVariants as answer
 use Rattle.job.specs.declared.Job.{Job}
 use Rattle.job.specs.declared.Taken.{Taken}
 use Rattle.job.proofs.Tidy.{timed_says}
@@ -43,11 +40,12 @@ handed_back : (x : Standing) (t : TimedEntry) → (next_timed x t).job ≡ (take
 handed_back x t = go (take_timed_of x.job t.entry t.minute).answer
   where
     go : (a : Answer) → (on_answer a (take_timed_of x.job t.entry t.minute).job x.told).job ≡ (take_timed_of x.job t.entry t.minute).job
-    go (answer.Told told) = refl
-    go (answer.Refused n) = refl
+    go (Ok told) = refl
+    go (Err r) = refl
 
-module _ (s : List ℕ) (l : Layout) (acc : read_of s ≡ reading.Accepted l) (w : List ℕ) (f : WindowFile l.types.len w)
-    (r : List ℕ) (taken : ℕ) (few : taken < 63) (whole : (state_after (bytes_of s l.types) (bytes_of s l.nodes) r taken).ok ≡ true) where
+module _ (s : List ℕ) (l : Layout) (acc : read_of s ≡ Ok l) (w : List ℕ) (f : WindowFile l.types.len w)
+    (r : List ℕ) (taken : ℕ) (few : taken < 63)
+    (last : List ℕ) (whole : state_after (bytes_of s l.types) (bytes_of s l.nodes) r taken ≡ Ok last) where
   abbrev N : List ℕ
   N = bytes_of s l.nodes
 
@@ -56,20 +54,20 @@ module _ (s : List ℕ) (l : Layout) (acc : read_of s ≡ reading.Accepted l) (w
 
   -- the untimed job of the first k entries
   abbrev first : ℕ → Job
-  first k = at s l acc r taken few whole k
+  first k = at s l acc r taken few last whole k
 
   -- one entry more is taken from the earliest minute of those before it on, where its window is open
   one_later : (k m : ℕ) → k < taken → soon k ≤ m → inside (leaf_window w N (leaf_of r k)) m ≡ true
       → (take_timed_of (with_hours w (first k) (soon k)) (entry_at r k) m).job ≡ with_hours w (first (suc k)) m
   one_later k m h late open_then =
-      let g = (led s l acc r taken few whole k (omega arith)).good in
+      let g = (led s l acc r taken few last whole k (omega arith)).good in
       let e = entry_at r k in
-      let may = may_next s l acc r taken few whole k h g in
+      let may = may_next s l acc r taken few last whole k h g in
       let came : came_by w N (firsts r k) k (soon k) ≡ true =
       came_same w N (firsts r k) r k (soon k) (λ i q. firsts_in r k (2 * i) (omega arith) (omega arith)) ∙ came_soonest l.types.len w f N r k in
       let told = saying (told_by N (after s l acc (first k) g e may)) in
       ap (λ (t : Taken). t.job) (taken_at s l acc w f (first k) g (soon k) came e m told (with_entry (first k) e) (taken_so s l acc (first k) g e may) (no_fault w N e.leaf (soon k) m late open_then))
-      ∙ ap (λ (j : Job). with_hours w j m) (at_more s l acc r taken few whole k)
+      ∙ ap (λ (j : Job). with_hours w j m) (at_more s l acc r taken few last whole k)
 
   -- the first n entries and a minute by which they can have come are reached
   reached : (n : ℕ) → n ≤ taken → (m : ℕ) → m ≤ most_minute → came_by w N r n m ≡ true
@@ -103,15 +101,15 @@ passing_real j z h real =
     let g = real_good (struck_out j) real in
     let s = plan_of j in
     let l = real.layout in
-    let acc : read_of s ≡ reading.Accepted l = ap read_of g.plan ∙ real.accepted in
-    let whole : (state_after (bytes_of s l.types) (bytes_of s l.nodes) j.entries j.taken).ok ≡ true =
-    subst (λ (p : List ℕ). (state_after (bytes_of p l.types) (bytes_of p l.nodes) j.entries j.taken).ok ≡ true) (sym g.plan) (ap (λ (x : Replayed). x.ok) g.state) in
+    let acc : read_of s ≡ Ok l = ap read_of g.plan ∙ real.accepted in
+    let whole : state_after (bytes_of s l.types) (bytes_of s l.nodes) j.entries j.taken ≡ Ok g.table =
+    subst (λ (p : List ℕ). state_after (bytes_of p l.types) (bytes_of p l.nodes) j.entries j.taken ≡ Ok g.table) (sym g.plan) g.state in
     let kept_so = kept_says l.types.len (windows_of j) (bytes_of s l.nodes) j.entries j.taken j.minute (sym (ap (kept_on j) acc) ∙ b) in
-    let (ts, there) = reached s l acc (windows_of j) kept_so.0 j.entries j.taken t.neat.few whole j.taken (omega arith) j.minute z.minute kept_so.1 in
+    let (ts, there) = reached s l acc (windows_of j) kept_so.0 j.entries j.taken t.neat.few g.table whole j.taken (omega arith) j.minute z.minute kept_so.1 in
     let long : length s ≡ j.file_len = length-take-le j.file_len j.file (omega (arith, z.file, t.neat.file_fits)) in
     let wide : length (windows_of j) ≡ j.windows_len = length-take-le j.windows_len j.windows (omega (arith, z.windows, t.windows_fit)) in
     let area : windows_of j ++ replicate (most_windows - j.windows_len) 0 ≡ j.windows =
     rw (← z.windows) (padded_back j.windows j.windows_len (omega (arith, z.windows, t.windows_fit)) t.windows_zeros) in
-    let same : with_hours (windows_of j) (at s l acc j.entries j.taken t.neat.few whole j.taken) j.minute ≡ j =
+    let same : with_hours (windows_of j) (at s l acc j.entries j.taken t.neat.few g.table whole j.taken) j.minute ≡ j =
     rw (tidy_file j z t.neat, tidy_entries j z t.neat, long, wide, area, t.hours) in
     record { file = s; layout = l; accepted = acc; windows = windows_of j; window_file = for_plan s l acc (windows_of j) kept_so.0; entries = ts; is = sym (there ∙ same) }

@@ -1,4 +1,5 @@
 -- Wherever a fresh job stands after some entries it is good, and what was last told is told by its table.
+use Rattle.std.specs.Prelude.{Ok}
 use mathlib.Core.Path.{◌≡◌, refl, sym, ap, subst, ◌∙◌}
 use mathlib.Core.Bool.{Bool, true, false}
 use mathlib.Core.List.{List, [], ◌∷◌}
@@ -9,26 +10,26 @@ use Rattle.process.specs.Process.{Process, Run}
 use Rattle.process.specs.Depth.{most_undos}
 use Rattle.plan.specs.Reading.{bytes_of, read_of}
 use Rattle.plan.specs.declared.Layout.{Layout}
-use Rattle.plan.specs.declared.Reading.TheVariants.{Accepted}
 use Rattle.runs.specs.Beginnings.{Beginnings}
 use Rattle.runs.specs.Cells.{told_ended, told_next}
 use Rattle.state.specs.State.{told_by, may_come}
 use Rattle.job.specs.Job.{saying, refusal}
 use Rattle.job.specs.Offer.{Standing, on_answer, next, offer, started, record_of}
 use Rattle.job.specs.Demand2.{plan_process, Continues}
-use Rattle.job.specs.Numbers.{number_of, Refuses}
+use Rattle.job.specs.Numbers.{number, number_of, Refuses}
 use Rattle.state.specs.declared.Entry.{Entry}
 use Rattle.job.specs.declared.Taken.{Taken}
 use Rattle.job.specs.declared.Job.{Job}
+use Rattle.job.specs.declared.Refusal.{Refusal}
 use Rattle.job.proofs.Outcomes.{told_of}
 use Rattle.job.proofs.Comes.{comes, told_begins}
 use Rattle.job.proofs.Followed.{Reached}
 use Rattle.job.proofs.Good.{Good, runs_on, good_reached, fresh_good, not_taken, taken_so, next_good}
 
-pub refuses_so : (n : ℕ) (j : Job) (t : Taken) → t ≡ refusal n j → Refuses n j t
-refuses_so n j t e = record { number = ap (λ (x : Taken). number_of x.answer) e; unchanged = ap (λ (x : Taken). x.job) e }
+pub refuses_so : (r : Refusal) (j : Job) (t : Taken) → t ≡ refusal r j → Refuses (number r) j t
+refuses_so r j t e = record { number = ap (λ (x : Taken). number_of x.answer) e; unchanged = ap (λ (x : Taken). x.job) e }
 
-module _ (s : List ℕ) (l : Layout) (acc : read_of s ≡ Accepted l) where
+module _ (s : List ℕ) (l : Layout) (acc : read_of s ≡ Ok l) where
   abbrev T : List ℕ
   T = bytes_of s l.types
 

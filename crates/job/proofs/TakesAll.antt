@@ -1,5 +1,6 @@
 -- What brings a job's record to a beginning of a run is taken whole, each entry by the job that the one before it gave back: each continues the
 -- record. Where it brings it to a complete run, the run may end after the last one.
+use Rattle.std.specs.Prelude.{Ok}
 use mathlib.Core.Path.{◌≡◌, refl, sym, ap, ap₂, subst, ◌∙◌}
 use mathlib.Core.List.{List, [], ◌∷◌, ◌++◌, map, append-nil, append_assoc}
 use Prim.Native.Nat.{ℕ}
@@ -7,7 +8,6 @@ use Rattle.process.specs.Process.{Status, Process, entry, Run}
 use Rattle.process.specs.Figure2.{Complete}
 use Rattle.plan.specs.Reading.{read_of}
 use Rattle.plan.specs.declared.Layout.{Layout}
-use Rattle.plan.specs.declared.Reading.TheVariants.{Accepted}
 use Rattle.runs.specs.Beginnings.{Begins}
 use Rattle.job.specs.Offer.{Standing, next, offer, TakesAll, no_more, one_more, TakesToEnd, run_entry, record_of}
 use Rattle.job.specs.Lists.{offered}
@@ -26,7 +26,7 @@ pub record TakesOn (x : Standing) (z : Run) : Type 0 where
   pub takes : TakesAll x (map offered z) (offer x (map offered z))
   pub recorded : record_of (offer x (map offered z)).job ≡ record_of x.job ++ z
 
-module _ (s : List ℕ) (l : Layout) (acc : read_of s ≡ Accepted l) where
+module _ (s : List ℕ) (l : Layout) (acc : read_of s ≡ Ok l) where
   abbrev P : Process
   P = plan_process s l
 

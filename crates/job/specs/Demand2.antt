@@ -2,15 +2,15 @@
 -- gives for the plan, and says that the run may end exactly where the figure has a complete one. Since both sides of a parallel begin
 -- (N6 of document 02), a run that may end does not go on. `demand2` in proofs/ proves it; the contracts of `Job::start` and `Job::take`
 -- equate their results with `start_of` and `take_of`.
-use Rattle.std.specs.Prelude.{◌≡◌, List, [], ◌∷◌, ◌++◌, ◌↔◌, ℕ, ◌-◌, ◌*◌, ◌/◌, ◌%◌, ◌^◌, ◌≤◌, ◌<◌, length, get_or, replicate}
-use Rattle.std.proofs.Math.Option.{none}
+use Rattle.std.specs.Prelude.{◌≡◌, List, [], ◌∷◌, ◌++◌, ◌↔◌, ℕ, ◌-◌, ◌*◌, ◌/◌, ◌%◌, ◌^◌, ◌≤◌, ◌<◌, length, get_or, replicate, Ok}
+use Rattle.std.proofs.Math.Option.{none, some}
 use Rattle.process.specs.Process.{Status, Process, entry, Run}
 use Rattle.process.specs.Figure2.{Complete}
 use Rattle.plan.specs.PlanFile.{most_bytes}
 use Rattle.plan.specs.Reading.{bytes_of, read_of}
 use Rattle.plan.specs.Tree.{process_of}
 use Rattle.plan.specs.declared.Layout.{Layout}
-use Rattle.plan.specs.declared.Reading.TheVariants.{Accepted, Refused}
+use Rattle.plan.specs.Reading as plan
 use Rattle.runs.specs.Beginnings.{Begins, NoPrefix}
 use Rattle.job.specs.Job.{untimed_job, no_job, start_of, take_of}
 use Rattle.job.specs.Numbers.{number_of, next_of, end_number, end_of, Refuses}
@@ -71,16 +71,16 @@ pub record Carries (s : List ℕ) (j : Job) : Type 0 where
 
 pub record Demand2 : Type 0 where
   -- a start on a plan file that is accepted, and on any other
-  pub starts : (s : List ℕ) (l : Layout) → read_of s ≡ Accepted l → Starts (started s l) (start_of s)
-  pub turns_away : (s : List ℕ) (n : ℕ) → read_of s ≡ Refused n → Refuses n no_job (start_of s)
+  pub starts : (s : List ℕ) (l : Layout) → read_of s ≡ Ok l → Starts (started s l) (start_of s)
+  pub turns_away : (s : List ℕ) (n : ℕ) → plan.number_of (read_of s) ≡ some n → Refuses n no_job (start_of s)
   -- every list of entries offered to a fresh job
-  pub honest : (s : List ℕ) (l : Layout) → read_of s ≡ Accepted l → (es : List Entry) → Honest (plan_process s l) (offer (started s l) es)
+  pub honest : (s : List ℕ) (l : Layout) → read_of s ≡ Ok l → (es : List Entry) → Honest (plan_process s l) (offer (started s l) es)
   -- and so of the list: what begins a run is taken whole, and what is taken of any list begins one
-  pub lists : (s : List ℕ) (l : Layout) → read_of s ≡ Accepted l → WholeLists (plan_process s l) (started s l)
+  pub lists : (s : List ℕ) (l : Layout) → read_of s ≡ Ok l → WholeLists (plan_process s l) (started s l)
   -- whatever is offered, the job carries its plan
-  pub carries : (s : List ℕ) (l : Layout) → read_of s ≡ Accepted l → (es : List Entry) → Carries s (offer (started s l) es).job
+  pub carries : (s : List ℕ) (l : Layout) → read_of s ≡ Ok l → (es : List Entry) → Carries s (offer (started s l) es).job
   -- and so of runs: no complete run of the plan is a proper beginning of another
-  pub no_prefix : (s : List ℕ) (l : Layout) → read_of s ≡ Accepted l → NoPrefix (plan_process s l)
+  pub no_prefix : (s : List ℕ) (l : Layout) → read_of s ≡ Ok l → NoPrefix (plan_process s l)
   -- a job value that no file and no list of entries give is refused with 11, whatever the entry, and handed back unchanged
   pub false_jobs : (j : Job) → Sized j → (Real j → ⊥) → (e : Entry) → Refuses 11 j (take_of j e)
   -- such is the job beside a start's refusal

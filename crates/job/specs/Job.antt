@@ -1,12 +1,11 @@
 -- What a start and an entry answer, for every list of bytes, every value of the type Job and every entry: the definitions that the
 -- contracts of `Job::start` and `Job::take` equate their results with.
-use Rattle.std.specs.Prelude.{Bool, true, false, cond, List, ◌++◌, ℕ, ◌+◌, ◌-◌, ◌*◌, leb, ltb, eqb, length, get_or, set, take, replicate}
+use Rattle.std.specs.Prelude.{Bool, true, false, cond, List, ◌++◌, ℕ, ◌+◌, ◌-◌, ◌*◌, leb, ltb, eqb, length, get_or, set, take, replicate, Result, Ok, Err}
 use Rattle.blocks.specs.Bounded.{every}
 use Rattle.plan.specs.PlanFile.{most_actions, most_bytes}
 use Rattle.plan.specs.Reading.{node_limit, rule_limit, bytes_of, read_of}
 use Rattle.plan.specs.declared.Layout.{Layout}
-use Rattle.plan.specs.declared.Reading.{Reading}
-use Rattle.plan.specs.declared.Reading.TheVariants as reading
+use Rattle.plan.specs.declared.Fault.{Fault}
 use Rattle.runs.specs.declared.Ended.{Ended}
 use Rattle.runs.specs.declared.Ended.TheVariants as ended
 use Rattle.runs.specs.declared.Told as cells
@@ -17,9 +16,14 @@ use Rattle.job.specs.declared.Status.TheVariants.{Succeeded, Failed}
 use Rattle.job.specs.declared.End.{End}
 use Rattle.job.specs.declared.End.TheVariants.{Open, MayEnd}
 use Rattle.job.specs.declared.Told.{Told}
-use Rattle.job.specs.declared.Answer.TheVariants as answer
+use Rattle.job.specs.declared.Refusal.{Refusal}
+use Rattle.job.specs.declared.Refusal.TheVariants as why
 use Rattle.job.specs.declared.Job.{Job}
 use Rattle.job.specs.declared.Taken.{Taken}
+
+-- What the runner answers: what it tells, or why it refuses.
+abbrev pub Answer : Type 0
+Answer = Result Told Refusal
 
 -- "whether the run may end here, and if so whether it succeeded"
 abbrev pub end_of : Ended → End
@@ -31,8 +35,8 @@ abbrev pub saying : cells.Told → Told
 saying t = record { next = t.next; end = end_of t.ended }
 
 -- A refusal gives its number only; the job is unchanged.
-abbrev pub refusal : ℕ → Job → Taken
-refusal n j = record { answer = answer.Refused n; job = j }
+abbrev pub refusal : Refusal → Job → Taken
+refusal r j = record { answer = Err r; job = j }
 
 -- The bytes of a window file that names each of ten actions: the most that one can have.
 abbrev pub most_windows : ℕ
@@ -64,11 +68,11 @@ abbrev pub fresh_job : List ℕ → Job
 fresh_job s = untimed_job (s ++ replicate (most_bytes - length s) 0) (length s) (replicate 126 0) 0
 
 abbrev pub start_with : List ℕ → Layout → Taken
-start_with s l = record { answer = answer.Told (saying (told_by (bytes_of s l.nodes) fresh_table)); job = fresh_job s }
+start_with s l = record { answer = Ok (saying (told_by (bytes_of s l.nodes) fresh_table)); job = fresh_job s }
 
-abbrev pub start_on : List ℕ → Reading → Taken
-start_on s (reading.Accepted l) = start_with s l
-start_on s (reading.Refused n) = refusal n no_job
+abbrev pub start_on : List ℕ → Result Layout Fault → Taken
+start_on s (Ok l) = start_with s l
+start_on s (Err f) = refusal (why.Plan f) no_job
 
 -- A start on the bytes of a plan file.
 abbrev pub start_of : List ℕ → Taken
@@ -107,24 +111,24 @@ with_entry j e = record {
 
 -- An entry that may come: it is kept, and what the table tells with it is told.
 abbrev pub after_entry : List ℕ → List ℕ → Job → Entry → Taken
-after_entry b table j e = record { answer = answer.Told (saying (told_by b (set table e.leaf e.outcome))); job = with_entry j e }
+after_entry b table j e = record { answer = Ok (saying (told_by b (set table e.leaf e.outcome))); job = with_entry j e }
+
+-- An entry to a job after whose record the table is this one, where there is one: the entry has to be one that may come.
+abbrev pub take_after : List ℕ → List ℕ → Job → Entry → Result (List ℕ) (List ℕ) → Taken
+take_after types b j e (Ok table) = cond (may_come types b table e.leaf e.outcome) (after_entry b table j e) (refusal why.Entry j)
+take_after types b j e (Err table) = refusal why.Entry j
 
 -- An entry to a job of a plan with these types and nodes: 11 where its record is none of the plan, or the entry may not come.
 abbrev pub take_with : List ℕ → List ℕ → Job → Entry → Taken
-take_with types b j e =
-    cond (state_after types b j.entries j.taken).ok
-    (cond (may_come types b (state_after types b j.entries j.taken).table e.leaf e.outcome)
-    (after_entry b (state_after types b j.entries j.taken).table j e)
-    (refusal 11 j))
-    (refusal 11 j)
+take_with types b j e = take_after types b j e (state_after types b j.entries j.taken)
 
-abbrev pub take_on : Job → Entry → Reading → Taken
-take_on j e (reading.Accepted l) = take_with (bytes_of (plan_of j) l.types) (bytes_of (plan_of j) l.nodes) j e
-take_on j e (reading.Refused n) = refusal 11 j
+abbrev pub take_on : Job → Entry → Result Layout Fault → Taken
+take_on j e (Ok l) = take_with (bytes_of (plan_of j) l.types) (bytes_of (plan_of j) l.nodes) j e
+take_on j e (Err f) = refusal why.Entry j
 
 -- An entry without a minute to a job: a timed one counts as false.
 abbrev pub take_of : Job → Entry → Taken
-take_of j e = cond (untimed j) (cond (tidy j) (take_on j e (read_of (plan_of j))) (refusal 11 j)) (refusal 11 j)
+take_of j e = cond (untimed j) (cond (tidy j) (take_on j e (read_of (plan_of j))) (refusal why.Entry j)) (refusal why.Entry j)
 
 -- "the limits 10, 63 and 127"
 abbrev pub limits : Limits

@@ -1,15 +1,13 @@
 -- Demand 2 of whole lists: which lists a fresh job takes whole, and what it has taken of any list, refused entries passed over. It follows from
 -- what `Honest` says of each entry: `whole_lists` in proofs/.
-use Rattle.std.specs.Prelude.{◌≡◌, List, [], ◌∷◌, map}
+use Rattle.std.specs.Prelude.{◌≡◌, List, [], ◌∷◌, map, Ok, Err}
 use Rattle.process.specs.Process.{Process, entry, Run}
 use Rattle.process.specs.Process as process
 use Rattle.runs.specs.Beginnings.{Begins}
 use Rattle.state.specs.State.{entries_from}
 use Rattle.state.specs.declared.Entry.{Entry}
-use Rattle.job.specs.Job.{take_of}
+use Rattle.job.specs.Job.{Answer, take_of}
 use Rattle.job.specs.Offer.{Standing, next, offer, TakesAll, status_number}
-use Rattle.job.specs.declared.Answer.{Answer}
-use Rattle.job.specs.declared.Answer.TheVariants as answer
 
 -- an entry of a run, as one that is offered: the number of its leaf, and 1 or 2 for its status
 abbrev pub offered : process.Entry → Entry
@@ -17,8 +15,8 @@ offered (entry n s) = record { leaf = n; outcome = status_number s }
 
 -- an entry that is taken stands before those that are taken after it
 abbrev pub if_taken : Answer → Entry → List Entry → List Entry
-if_taken (answer.Told t) e es = e ∷ es
-if_taken (answer.Refused n) e es = es
+if_taken (Ok t) e es = e ∷ es
+if_taken (Err r) e es = es
 
 -- Of a list that is offered from x on, the entries that are taken, in order.
 unfoldable pub taken_from : Standing → List Entry → List Entry

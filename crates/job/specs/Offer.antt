@@ -1,20 +1,17 @@
 -- A list of entries offered to a fresh job: each goes to the job that the one before it gave back. What is told after a refusal is what
 -- was last told.
-use Rattle.std.specs.Prelude.{◌≡◌, cond, List, [], ◌∷◌, map, ℕ, ◌≤◌, eqb, length}
+use Rattle.std.specs.Prelude.{◌≡◌, cond, List, [], ◌∷◌, map, ℕ, ◌≤◌, eqb, length, Ok, Err}
 use Rattle.std.proofs.Math.Option.{none}
 use Rattle.process.specs.Process.{Status, ok, fail, entry, Run}
 use Rattle.process.specs.Process as process
 use Rattle.plan.specs.PlanFile.{most_bytes}
 use Rattle.plan.specs.Reading.{bytes_of, read_of}
 use Rattle.plan.specs.declared.Layout.{Layout}
-use Rattle.plan.specs.declared.Reading.TheVariants.{Accepted}
 use Rattle.state.specs.State.{told_by, fresh_table, entries_from}
-use Rattle.job.specs.Job.{most_windows, most_minute, saying, fresh_job, take_of}
+use Rattle.job.specs.Job.{Answer, most_windows, most_minute, saying, fresh_job, take_of}
 use Rattle.job.specs.Numbers.{number_of, end_number}
 use Rattle.state.specs.declared.Entry.{Entry}
 use Rattle.job.specs.declared.Told.{Told}
-use Rattle.job.specs.declared.Answer.{Answer}
-use Rattle.job.specs.declared.Answer.TheVariants as answer
 use Rattle.job.specs.declared.Job.{Job}
 
 -- the job, and what was last told
@@ -23,8 +20,8 @@ pub record Standing : Type 0 where
   pub told : Told
 
 abbrev pub on_answer : Answer → Job → Told → Standing
-on_answer (answer.Told t) j last = record { job = j; told = t }
-on_answer (answer.Refused n) j last = record { job = j; told = last }
+on_answer (Ok t) j last = record { job = j; told = t }
+on_answer (Err r) j last = record { job = j; told = last }
 
 abbrev pub next : Standing → Entry → Standing
 next x e = on_answer (take_of x.job e).answer (take_of x.job e).job x.told
@@ -68,7 +65,7 @@ pub record TakesToEnd (x : Standing) (es : List Entry) (status : Status) : Type 
 pub record Real (j : Job) : Type 0 where
   pub file : List ℕ
   pub layout : Layout
-  pub accepted : read_of file ≡ Accepted layout
+  pub accepted : read_of file ≡ Ok layout
   pub entries : List Entry
   pub is : j ≡ (offer (started file layout) entries).job
 

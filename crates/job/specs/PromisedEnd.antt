@@ -1,12 +1,11 @@
 -- N2 of document 02, the promise of an end: "every job reached by start and accepted entries may end or continue, and can reach an end in at
 -- most as many more entries as it has unused leaves". `promised_end` in proofs/ proves it.
-use Rattle.std.specs.Prelude.{◌≡◌, Bool, true, false, cond, List, ◌⊎◌, ℕ, ◌/◌, ◌%◌, ◌^◌, ◌≤◌, ◌<◌, ltb, eqb, length}
+use Rattle.std.specs.Prelude.{◌≡◌, Bool, true, false, cond, List, ◌⊎◌, ℕ, ◌/◌, ◌%◌, ◌^◌, ◌≤◌, ◌<◌, ltb, eqb, length, Ok}
 use Rattle.blocks.specs.Bounded.{total, one}
 use Rattle.process.specs.Process.{Status, Run}
 use Rattle.nodes.specs.Nodes.{count, form}
 use Rattle.plan.specs.Reading.{bytes_of, read_of}
 use Rattle.plan.specs.declared.Layout.{Layout}
-use Rattle.plan.specs.declared.Reading.TheVariants.{Accepted}
 use Rattle.runs.specs.Beginnings.{occurrences}
 use Rattle.state.specs.declared.Entry.{Entry}
 use Rattle.job.specs.Numbers.{end_number}
@@ -47,4 +46,4 @@ pub record NeverStalls (nodes : List ℕ) (x : Standing) : Type 0 where
 
 -- every accepted plan file, and every list of entries offered to its fresh job
 abbrev pub PromisedEnd : Type 0
-PromisedEnd = (s : List ℕ) (l : Layout) → read_of s ≡ Accepted l → (es : List Entry) → NeverStalls (bytes_of s l.nodes) (offer (started s l) es)
+PromisedEnd = (s : List ℕ) (l : Layout) → read_of s ≡ Ok l → (es : List Entry) → NeverStalls (bytes_of s l.nodes) (offer (started s l) es)

@@ -1,13 +1,13 @@
 -- N9 of document 02, what is promised of timed jobs: "A job started with a window file is timed: it takes an entry exactly where the untimed runner
 -- would and neither 21 nor 22 falls, and then tells the same. So, with minutes struck out, a timed run is one the untimed runner accepts." And which
 -- values of the type Job count as false. `timed_runner` in proofs/ proves it. What the untimed runner accepts and tells is Demand 2.
-use Rattle.std.specs.Prelude.{◌≡◌, true, false, List, [], ◌∷◌, ◌↔◌, ℕ, ◌+◌, ◌^◌, ◌≤◌, ◌<◌, length, replicate}
-use Rattle.std.proofs.Math.Option.{none}
+use Rattle.std.specs.Prelude.{◌≡◌, true, false, List, [], ◌∷◌, ◌↔◌, ℕ, ◌+◌, ◌^◌, ◌≤◌, ◌<◌, length, replicate, Ok}
+use Rattle.std.proofs.Math.Option.{none, some}
 use Rattle.hours.specs.Windows.{WindowFile}
 use Rattle.hours.specs.Hours.{OpenAt}
 use Rattle.plan.specs.Reading.{bytes_of, read_of}
 use Rattle.plan.specs.declared.Layout.{Layout}
-use Rattle.plan.specs.declared.Reading.TheVariants.{Accepted, Refused}
+use Rattle.plan.specs.Reading as plan
 use Rattle.state.specs.State.{entries_from}
 use Rattle.state.specs.declared.Entry.{Entry}
 use Rattle.job.specs.Job.{most_windows, most_minute, no_job, take_of}
@@ -73,7 +73,7 @@ pub record KeepsHours (s : List ℕ) (l : Layout) (w : List ℕ) (x : Standing) 
 pub record RealTimed (j : Job) : Type 0 where
   pub file : List ℕ
   pub layout : Layout
-  pub accepted : read_of file ≡ Accepted layout
+  pub accepted : read_of file ≡ Ok layout
   pub windows : List ℕ
   pub window_file : WindowFile (actions_of file layout) windows
   pub entries : List TimedEntry
@@ -90,11 +90,11 @@ pub record TimedRunner : Type 0 where
   -- a minute has 32 bits
   pub minutes : most_minute + 1 ≡ 2 ^ 32
   -- a start: the plan file's number first, then 23 exactly where the other is no window file for the plan
-  pub starts : (s w : List ℕ) (l : Layout) → read_of s ≡ Accepted l → WindowFile (actions_of s l) w → Starts (started_timed s l w) (start_timed_of s w)
-  pub turns_away : (s w : List ℕ) (n : ℕ) → read_of s ≡ Refused n → Refuses n no_job (start_timed_of s w)
-  pub no_windows : (s w : List ℕ) (l : Layout) → read_of s ≡ Accepted l → (WindowFile (actions_of s l) w → ⊥) → Refuses 23 no_job (start_timed_of s w)
+  pub starts : (s w : List ℕ) (l : Layout) → read_of s ≡ Ok l → WindowFile (actions_of s l) w → Starts (started_timed s l w) (start_timed_of s w)
+  pub turns_away : (s w : List ℕ) (n : ℕ) → plan.number_of (read_of s) ≡ some n → Refuses n no_job (start_timed_of s w)
+  pub no_windows : (s w : List ℕ) (l : Layout) → read_of s ≡ Ok l → (WindowFile (actions_of s l) w → ⊥) → Refuses 23 no_job (start_timed_of s w)
   -- every list of timed entries offered to a fresh timed job
-  pub keeps : (s w : List ℕ) (l : Layout) → read_of s ≡ Accepted l → WindowFile (actions_of s l) w → (ts : List TimedEntry)
+  pub keeps : (s w : List ℕ) (l : Layout) → read_of s ≡ Ok l → WindowFile (actions_of s l) w → (ts : List TimedEntry)
       → KeepsHours s l w (offer_timed (started_timed s l w) ts)
   -- a value that no plan file, no window file and no list of timed entries give is refused with 11, whatever the entry and its minute
   pub false_jobs : (j : Job) → Sized j → (RealTimed j → ⊥) → (t : TimedEntry) → Refuses 11 j (take_timed_of j t.entry t.minute)

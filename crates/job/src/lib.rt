@@ -1,45 +1,46 @@
 // The runner: a job carries its plan and its record so far, and lets through exactly the beginnings of its plan's runs.
 #![tactic(auto)]
 
-ghost use Rattle.std.specs.Prelude.{◌≡◌, ◌≤◌, ◌<◌, true, cond, ltb, eqb, length};
-ghost use Rattle.plan.specs.PlanFile.{most_bytes, Runnable};
-ghost use Rattle.plan.specs.Reading.{bytes_of, read_of};
-ghost use Rattle.job.specs.Job.{limits, end_of, saying, refusal, untimed_job, no_job, fresh_job, start_with, start_of, zeros_from, tidy, untimed, with_entry, after_entry, take_with, take_on, take_of, plan_of};
-ghost use Rattle.job.specs.Offer.{Sized};
-ghost use Rattle.job.specs.Timed.{start_timed_of, take_timed_of};
-ghost use Rattle.job.specs.TimedRunner.{Brings};
+ghost use Rattle.std.specs.Prelude.{◌≡◌, ◌≤◌, ◌<◌, length, Ok};
+ghost use Rattle.plan.specs.PlanFile.{most_bytes};
+ghost use Rattle.plan.specs.Reading.{read_of};
+ghost use Rattle.job.specs.Job.{saying, no_job, fresh_job, start_with, start_of, zeros_from, untimed_job};
 
-use plan::{Layout, Reading};
+use plan::Layout;
 use runs::Ended;
 use state::Entry;
 
 mod timed;
 
-#[derive(Clone, Copy)]
+#[derive(Clone, Copy, Debug, PartialEq, Eq)]
 pub enum Status {
     Succeeded,
     Failed,
 }
 
 // Whether the run may end here, and if so whether it succeeded.
-#[derive(Clone, Copy)]
+#[derive(Clone, Copy, Debug, PartialEq, Eq)]
 pub enum End {
     Open,
     MayEnd(Status),
 }
 
 // What is told after the start and after each entry taken: bit n of `next` for each leaf n that may come next.
-#[derive(Clone, Copy)]
+#[derive(Clone, Copy, Debug, PartialEq, Eq)]
 pub struct Told {
     pub next: u64,
     pub end: End,
 }
 
-#[derive(Clone, Copy)]
-pub enum Answer {
-    Told(Told),
-    Refused(u8),
+// Why a start or an entry is refused: what is wrong with the plan file; the entry may not come, or the job is none; the window file or the minute.
+#[derive(Clone, Copy, Debug, PartialEq, Eq)]
+pub enum Refusal {
+    Plan(plan::Fault),
+    Entry,
+    Hours(hours::Fault),
 }
+
+pub type Answer = Result<Told, Refusal>;
 
 // The bytes of the largest plan file: its four headings, and as many types, pairs, nodes and rule bytes as a plan may have.
 const FILE: usize = 16
@@ -56,7 +57,8 @@ pub const MOST_WINDOWS: usize = 5 * Job::MOST_ACTIONS as usize;
 
 // A job: the bytes of its plan file, and its record so far, two bytes an entry; and where it is timed, those of its window file and the minute of
 // its last entry. The bytes past each are 0, and what says nothing is 0.
-#[derive(Clone, Copy)]
+// A value by itself, with its areas and their lengths beside them: the papers' form. A caller may make one up, which `take` and `take_at` find out.
+#[derive(Clone, Copy, PartialEq, Eq)]
 pub struct Job {
     pub file: [u8; FILE],
     pub file_len: usize,
@@ -74,32 +76,65 @@ pub struct Taken {
     pub job: Job,
 }
 
-fn end_of(e: Ended) -> End
-    ensures { result ≡ end_of e }
-{
-    match e {
-        Ended::Open => End::Open,
-        Ended::Succeeded => End::MayEnd(Status::Succeeded),
-        Ended::Failed => End::MayEnd(Status::Failed),
+impl From<Ended> for End {
+    ghost use Rattle.job.specs.Job.{end_of};
+
+    ghost from_gives = { λ e r. r ≡ end_of e };
+
+    fn from(e: Ended) -> End {
+        match e {
+            Ended::Open => End::Open,
+            Ended::Succeeded => End::MayEnd(Status::Succeeded),
+            Ended::Failed => End::MayEnd(Status::Failed),
+        }
     }
 }
 
-fn say(t: runs::Told) -> Told
-    ensures { result ≡ saying t }
-{
-    let ended = t.ended;
-    Told {
-        next: t.next,
-        end: end_of(ended),
+impl From<runs::Told> for Told {
+    ghost use Rattle.job.specs.Job.{saying};
+
+    ghost from_gives = { λ t r. r ≡ saying t };
+
+    fn from(t: runs::Told) -> Told {
+        Told {
+            next: t.next,
+            end: End::from(t.ended),
+        }
     }
 }
 
-fn refuse(number: u8, job: Job) -> Taken
-    ensures { result ≡ refusal number job }
-{
-    Taken {
-        answer: Answer::Refused(number),
-        job,
+impl From<plan::Fault> for Refusal {
+    ghost use Rattle.job.specs.declared.Refusal.TheVariants.{Plan};
+
+    ghost from_gives = { λ f r. r ≡ Plan f };
+
+    fn from(f: plan::Fault) -> Refusal {
+        Refusal::Plan(f)
+    }
+}
+
+impl From<hours::Fault> for Refusal {
+    ghost use Rattle.job.specs.declared.Refusal.TheVariants.{Hours};
+
+    ghost from_gives = { λ f r. r ≡ Hours f };
+
+    fn from(f: hours::Fault) -> Refusal {
+        Refusal::Hours(f)
+    }
+}
+
+impl Refusal {
+    ghost use Rattle.job.specs.Numbers.{number};
+
+    // Document 01's number.
+    pub fn number(self) -> u8
+        ensures { result ≡ number self }
+    {
+        match self {
+            Refusal::Plan(f) => f.number(),
+            Refusal::Entry => 11,
+            Refusal::Hours(f) => f.number(),
+        }
     }
 }
 
@@ -107,136 +142,14 @@ fn refuse(number: u8, job: Job) -> Taken
 fn zeros_from(s: &[u8], at: usize) -> bool
     ensures { result ≡ zeros_from s.now at }
 {
-    let mut i = 0;
-    while i < s.len() {
-        if !zero_past(i, at, s[i]) {
-            return false;
-        }
-        i += 1;
-    }
-    true
-}
-
-fn zero_past(i: usize, at: usize, x: u8) -> bool
-    ensures { result ≡ cond (ltb i at) true (eqb x 0) }
-{
-    if i < at {
-        return true;
-    }
-    x == 0
-}
-
-// Whether the lengths are in range and the bytes past the plan file and past the record are 0.
-fn is_tidy(j: Job) -> bool
-    ensures { result ≡ tidy j }
-{
-    let file = j.file;
-    let entries = j.entries;
-    if j.file_len <= FILE {
-        if j.taken < NODES {
-            if zeros_from(&file, j.file_len) {
-                return zeros_from(&entries, 2 * j.taken);
-            }
-            return false;
-        }
-        return false;
-    }
-    false
-}
-
-// Whether the job has no window file and no minute.
-fn is_untimed(j: Job) -> bool
-    ensures { result ≡ untimed j }
-{
-    if j.timed {
-        return false;
-    }
-    let windows = j.windows;
-    if j.windows_len == 0 {
-        if j.minute == 0 {
-            return zeros_from(&windows, 0);
-        }
-        return false;
-    }
-    false
-}
-
-// The untimed job with this plan and record.
-fn untimed_job(file: [u8; FILE], file_len: usize, entries: [u8; 2 * NODES], taken: usize) -> Job
-    ensures { result ≡ untimed_job file file_len entries taken }
-{
-    Job {
-        file,
-        file_len,
-        entries,
-        taken,
-        timed: false,
-        windows: [0u8; MOST_WINDOWS],
-        windows_len: 0,
-        minute: 0,
-    }
-}
-
-// The job with one entry more.
-fn with_entry(j: Job, e: Entry) -> Job
-    requires { j.taken < 63 }
-    ensures { result ≡ with_entry j e }
-{
-    let file = j.file;
-    let taken = j.taken;
-    let windows = j.windows;
-    let mut entries = j.entries;
-    entries[2 * taken] = e.leaf;
-    entries[2 * taken + 1] = e.outcome;
-    Job {
-        file,
-        file_len: j.file_len,
-        entries,
-        taken: taken + 1,
-        timed: j.timed,
-        windows,
-        windows_len: j.windows_len,
-        minute: j.minute,
-    }
-}
-
-// An entry that may come: it is kept, and what the table tells with it is told.
-fn after_entry(types: &[u8], nodes: &[u8], table: [u8; NODES], j: Job, e: Entry) -> Taken
-    requires { Runnable types.now nodes.now × (j.taken < 63) × (e.leaf < 63) }
-    ensures { result ≡ after_entry nodes.now table j e }
-{
-    let mut next = table;
-    let n = blocks::wide(e.leaf);
-    next[n] = e.outcome;
-    let told = state::told_by(types, nodes, &next);
-    Taken {
-        answer: Answer::Told(say(told)),
-        job: with_entry(j, e),
-    }
-}
-
-// An entry to a job of a plan with these types and nodes.
-fn take_with(types: &[u8], nodes: &[u8], j: Job, e: Entry) -> Taken
-    requires { Runnable types.now nodes.now × (j.taken < 63) }
-    ensures { result ≡ take_with types.now nodes.now j e }
-{
-    let entries = j.entries;
-    let state = state::state_after(types, nodes, &entries, j.taken);
-    if !state.ok {
-        return refuse(11, j);
-    }
-    let table = state.table;
-    if !state::may_come(types, nodes, &table, e.leaf, e.outcome) {
-        return refuse(11, j);
-    }
-    after_entry(types, nodes, table, j, e)
+    (0..s.len()).all(|i| i < at || s[i] == 0)
 }
 
 // What a start that is refused hands back.
 fn no_job() -> Job
     ensures { result ≡ no_job }
 {
-    untimed_job([0u8; FILE], 0, [0u8; 2 * NODES], 0)
+    Job::untimed([0u8; FILE], 0, [0u8; 2 * NODES], 0)
 }
 
 // The fresh job of a plan file.
@@ -245,39 +158,20 @@ fn fresh_job(s: &[u8]) -> Job
     ensures { result ≡ fresh_job s.now }
 {
     let mut file = [0u8; FILE];
-    blocks::copy(&mut file, 0, s);
-    untimed_job(file, s.len(), [0u8; 2 * NODES], 0)
+    file[..s.len()].copy_from_slice(s);
+    Job::untimed(file, s.len(), [0u8; 2 * NODES], 0)
 }
 
 // The job that a start makes from a plan file with this layout.
 fn start_with(s: &[u8], l: Layout) -> Taken
-    requires { read_of s.now ≡ Reading.Accepted l }
+    requires { read_of s.now ≡ Ok l }
     ensures { result ≡ start_with s.now l }
 {
     let table = [0u8; NODES];
-    let told = state::told_by(plan::part_of(s, l.types), plan::part_of(s, l.nodes), &table);
+    let told = state::told_by(&l.process(s), &table);
     Taken {
-        answer: Answer::Told(say(told)),
+        answer: Ok(told.into()),
         job: fresh_job(s),
-    }
-}
-
-// An entry to a job whose plan file is `s`, with this layout.
-fn take_from(s: &[u8], l: Layout, j: Job, e: Entry) -> Taken
-    requires { (read_of s.now ≡ Reading.Accepted l) × (j.taken < 63) }
-    ensures { result ≡ take_with (bytes_of s.now l.types) (bytes_of s.now l.nodes) j e }
-{
-    take_with(plan::part_of(s, l.types), plan::part_of(s, l.nodes), j, e)
-}
-
-// An entry to a job that carries the plan file `s`.
-fn take_in(s: &[u8], j: Job, e: Entry) -> Taken
-    requires { (s.now ≡ plan_of j) × (j.taken < 63) }
-    ensures { result ≡ take_on j e (read_of (plan_of j)) }
-{
-    match plan::read(s) {
-        Reading::Refused(_) => refuse(11, j),
-        Reading::Accepted(l) => take_from(s, l, j, e),
     }
 }
 
@@ -290,6 +184,11 @@ pub struct Limits {
 }
 
 impl Job {
+    ghost use Rattle.job.specs.Job.{limits, refusal, untimed_job, tidy, untimed, with_entry, take_of};
+    ghost use Rattle.job.specs.Offer.{Sized};
+    ghost use Rattle.job.specs.Timed.{start_timed_of, take_timed_of};
+    ghost use Rattle.job.specs.TimedRunner.{Brings};
+
     // The limits of a plan file: the reader's own.
     pub const MOST_ACTIONS: u8 = plan::MOST_ACTIONS;
 
@@ -308,13 +207,89 @@ impl Job {
         }
     }
 
+    // The untimed job with this plan and record.
+    fn untimed(file: [u8; FILE], file_len: usize, entries: [u8; 2 * NODES], taken: usize) -> Job
+        ensures { result ≡ untimed_job file file_len entries taken }
+    {
+        Job {
+            file,
+            file_len,
+            entries,
+            taken,
+            timed: false,
+            windows: [0u8; MOST_WINDOWS],
+            windows_len: 0,
+            minute: 0,
+        }
+    }
+
+    // Whether the lengths are in range and the bytes past the plan file and past the record are 0.
+    fn is_tidy(&self) -> bool
+        ensures { result ≡ tidy self.now }
+    {
+        self.file_len <= FILE
+            && self.taken < NODES
+            && zeros_from(&self.file, self.file_len)
+            && zeros_from(&self.entries, 2 * self.taken)
+    }
+
+    // Whether the job has no window file and no minute.
+    fn is_untimed(&self) -> bool
+        ensures { result ≡ untimed self.now }
+    {
+        !self.timed && self.windows_len == 0 && self.minute == 0 && zeros_from(&self.windows, 0)
+    }
+
+    // The job with one entry more.
+    fn with_entry(mut self, e: Entry) -> Job
+        requires { self.taken < 63 }
+        ensures { result ≡ with_entry self e }
+    {
+        self.entries[2 * self.taken] = e.leaf;
+        self.entries[2 * self.taken + 1] = e.outcome;
+        self.taken += 1;
+        self
+    }
+
+    // It is refused, and the job is handed back unchanged.
+    fn refused(self, why: Refusal) -> Taken
+        ensures { result ≡ refusal why self }
+    {
+        Taken {
+            answer: Err(why),
+            job: self,
+        }
+    }
+
+    // What is told of an entry, or why it is refused. A timed job counts as false.
+    fn answer_to(&self, e: Entry) -> Answer
+        ensures { result ≡ (take_of self.now e).answer }
+    {
+        if !(self.is_untimed() && self.is_tidy()) {
+            return Err(Refusal::Entry);
+        }
+        let file = &self.file[..self.file_len];
+        let Ok(layout) = plan::read(file) else {
+            return Err(Refusal::Entry);
+        };
+        let process = layout.process(file);
+        let Ok(mut table) = state::state_after(&process, &self.entries, self.taken) else {
+            return Err(Refusal::Entry);
+        };
+        if !state::may_come(&process, &table, e.leaf, e.outcome) {
+            return Err(Refusal::Entry);
+        }
+        table[usize::from(e.leaf)] = e.outcome;
+        Ok(state::told_by(&process, &table).into())
+    }
+
     // Starts a job from the bytes of a plan file.
     pub fn start(file: &[u8]) -> Taken
         ensures { result ≡ start_of file.now }
     {
         match plan::read(file) {
-            Reading::Refused(n) => refuse(n, no_job()),
-            Reading::Accepted(l) => start_with(file, l),
+            Ok(l) => start_with(file, l),
+            Err(f) => no_job().refused(f.into()),
         }
     }
 
@@ -324,15 +299,13 @@ impl Job {
         ensures value { result ≡ take_of self e }
         ensures sized { Sized self }
     {
-        if !is_untimed(self) {
-            return refuse(11, self);
+        match self.answer_to(e) {
+            Ok(told) => Taken {
+                answer: Ok(told),
+                job: self.with_entry(e),
+            },
+            Err(why) => self.refused(why),
         }
-        if !is_tidy(self) {
-            return refuse(11, self);
-        }
-        let file = self.file;
-        let n = self.file_len;
-        take_in(&file[..n], self, e)
     }
 
     // Starts a timed job from the bytes of a plan file and of a window file.
@@ -340,8 +313,8 @@ impl Job {
         ensures { result ≡ start_timed_of file.now windows.now }
     {
         match plan::read(file) {
-            Reading::Refused(n) => refuse(n, no_job()),
-            Reading::Accepted(l) => timed::start_with(file, windows, l),
+            Ok(l) => timed::start_with(file, windows, l),
+            Err(f) => no_job().refused(f.into()),
         }
     }
 
@@ -350,11 +323,15 @@ impl Job {
         ensures value { result ≡ take_timed_of self e minute }
         ensures brings { Brings e minute }
     {
-        if !timed::is_tidy(self) {
-            return refuse(11, self);
+        match self.answer_at(e, minute) {
+            Ok(told) => Taken {
+                answer: Ok(told),
+                job: Job {
+                    minute,
+                    ..self.with_entry(e)
+                },
+            },
+            Err(why) => self.refused(why),
         }
-        let file = self.file;
-        let n = self.file_len;
-        timed::take_in(&file[..n], self, e, minute)
     }
 }

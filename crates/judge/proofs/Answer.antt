@@ -12,8 +12,7 @@ use Rattle.summary.specs.declared.Summary.{Summary}
 use Rattle.summary.specs.Exact.{Exact}
 use Rattle.sets.specs.PlanSets.{leaf_set, action_sets, sets_of}
 use Rattle.least.specs.Least.{FinalSet, Finals, LeastOf}
-use Rattle.least.specs.declared.Least.{Least}
-use Rattle.least.specs.declared.Least.TheVariants.{Found, Nothing}
+use Rattle.std.specs.Prelude.{Option, Some, None}
 use Rattle.judge.specs.Verdict.{smallest}
 use borrow.Author.Tests.{not-true}
 use Rattle.judge.proofs.Smallest.{Tells, smallest_tells, told_once}
@@ -32,11 +31,11 @@ module _ (types b : List ℕ) (root : Summary) (exact : Exact (leaf_set b) root 
     abbrev breaks : ℕ → Bool
     breaks t = not (satisfies rule pairs t)
 
-    as_told : (x : Least) → LeastOf rule pairs f x → Tells breaks (In f) x
-    as_told (Found u) s = record { is = s.has; holds = ap not s.breaks; least = λ t on k. s.least t on (not-true (satisfies rule pairs t) k) }
-    as_told Nothing s = λ t on. ap not (s t on)
+    as_told : (x : Option ℕ) → LeastOf rule pairs f x → Tells breaks (In f) x
+    as_told (Some u) s = record { is = s.has; holds = ap not s.breaks; least = λ t on k. s.least t on (not-true (satisfies rule pairs t) k) }
+    as_told None s = λ t on. ap not (s t on)
 
-    pub answer_found : (x : Least) → LeastOf rule pairs f x → x ≡ smallest breaks (sets_of types b)
+    pub answer_found : (x : Option ℕ) → LeastOf rule pairs f x → x ≡ smallest breaks (sets_of types b)
     answer_found x s = told_once breaks (In f) (λ t. Memᴰ t (sets_of types b))
         (λ t on. final_listed t (finals.sound t on)) (λ t m. finals.complete t (listed_final t m))
         x (smallest breaks (sets_of types b)) (as_told x s) (smallest_tells breaks (sets_of types b))

@@ -9,8 +9,7 @@ use Rattle.sets.specs.Fill.{Filled}
 use Rattle.sets.specs.Places.{place}
 use Rattle.sets.proofs.Places.{few_composites}
 use Rattle.least.specs.Least.{Finals, LeastOf}
-use Rattle.least.specs.declared.Least.{Least}
-use Rattle.least.specs.declared.Least.TheVariants.{Found}
+use Rattle.std.specs.Prelude.{Option, Some}
 use Rattle.plainest.specs.Shown.{LeftBy}
 use Rattle.judge.specs.Verdict.{answer_of}
 use Rattle.judge.specs.Inner.{RunFor, JudgedPlan}
@@ -20,10 +19,10 @@ use Rattle.judge.proofs.Plain.{left_final}
 
 module _ (types pairs b rule old new : List ℕ) (r : Runnable types b) (root : Summary) (filled : Filled types b old new root) (f : List ℕ) (finals : Finals root f) where
   -- the set that was found is left by some run
-  pub found_left : (x : Least) (set : ℕ) → x ≡ Found set → LeastOf rule pairs f x → LeftBy types b set
+  pub found_left : (x : Option ℕ) (set : ℕ) → x ≡ Some set → LeastOf rule pairs f x → LeftBy types b set
   found_left x set e least = left_final types b r root filled.whole set (finals.sound set (subst (LeastOf rule pairs f) e least).has)
 
-  pub judged_plan : (x y : Least) (run : List ℕ) → x ≡ y → LeastOf rule pairs f x → RunFor types b (answer_of y) run → JudgedPlan types pairs b rule old new (answer_of y) run
+  pub judged_plan : (x y : Option ℕ) (run : List ℕ) → x ≡ y → LeastOf rule pairs f x → RunFor types b (answer_of y) run → JudgedPlan types pairs b rule old new (answer_of y) run
   judged_plan x y run e least beside = record {
     answer = ap answer_of (answer_found types b root filled.whole rule pairs f finals y (subst (LeastOf rule pairs f) e least));
     beside = beside;

@@ -4,6 +4,7 @@ pub mod Decoded
 pub mod Entries
 pub mod Plain
 pub mod Some
+pub mod Numbers
 pub mod Codes
 pub mod Demand3
 pub mod Answer

@@ -14,8 +14,8 @@ use Rattle.plan.specs.PlanFile.{most_actions, Runnable}
 use Rattle.plan.specs.Tree.{process_of}
 use Rattle.plan.specs.Reading.{bytes_of, read_of}
 use Rattle.plan.specs.declared.Layout.{Layout}
-use Rattle.plan.specs.declared.Reading.{Reading}
-use Rattle.plan.specs.declared.Reading.TheVariants.{Accepted}
+use Rattle.plan.specs.declared.Fault.{Fault}
+use Rattle.std.specs.Prelude.{Result, Ok, Err}
 use Rattle.plan.proofs.Demand1.{runnable}
 use Rattle.plan.proofs.Tree.{drawn}
 use Rattle.summary.specs.declared.Summary.{Summary}
@@ -33,8 +33,8 @@ use Rattle.plainest.proofs.Shown.{plainest_shown}
 use Rattle.judge.specs.Shown.{shown_run, ShowsRun, OnlyShown}
 use Rattle.judge.specs.Judged.{with_record, work_after, Recorded, RecordAfter, OneAnswer}
 use Rattle.judge.specs.Record.{shown_on, record_for, RecordIs}
-use Rattle.judge.specs.declared.Judgement.{Judgement}
-use Rattle.judge.specs.declared.Judgement.TheVariants.{Consistent, Violated, Refused}
+use Rattle.judge.specs.Verdict.{Answer}
+use Rattle.judge.specs.declared.Judgement.TheVariants.{Consistent, Violated}
 use Rattle.judge.proofs.Decoded.{shown_back}
 
 module _ (types b : List ℕ) (plan : Runnable types b) where
@@ -54,7 +54,7 @@ module _ (types b : List ℕ) (plan : Runnable types b) where
       record { run = run; status = f.status; complete = c; leaves = e }
 
 -- the bytes that are computed show the run
-pub shows_plainest : (s : List ℕ) (l : Layout) → read_of s ≡ Accepted l → (set : ℕ) → LeftBy (bytes_of s l.types) (bytes_of s l.nodes) set → ShowsRun s l set (plainest_bytes (bytes_of s l.types) (bytes_of s l.nodes) set)
+pub shows_plainest : (s : List ℕ) (l : Layout) → read_of s ≡ Ok l → (set : ℕ) → LeftBy (bytes_of s l.types) (bytes_of s l.nodes) set → ShowsRun s l set (plainest_bytes (bytes_of s l.types) (bytes_of s l.nodes) set)
 unfolding plainest_bytes
 shows_plainest s l h set x =
     let types = bytes_of s l.types in
@@ -84,18 +84,18 @@ pub record_is : RecordIs
 record_is s work work' old new v j = go v j.record_after
   where
     shown : (set : ℕ) (r : Recorded s set old new) → r.bytes ≡ shown_on s (read_of s) set
-    shown set r = only_shown s r.layout set r.bytes _ r.shows (shows_plainest s r.layout r.accepted set (left s old new set r)) ∙ ap (λ (x : Reading). shown_on s x set) (sym r.accepted)
+    shown set r = only_shown s r.layout set r.bytes _ r.shows (shows_plainest s r.layout r.accepted set (left s old new set r)) ∙ ap (λ (x : Result Layout Fault). shown_on s x set) (sym r.accepted)
 
-    go : (v : Judgement) → RecordAfter s v old new → new ≡ record_for s v old
-    go Consistent e = e
-    go (Violated set) r = r.is ∙ ap (λ (bytes : List ℕ). with_record bytes old) (shown set r)
-    go (Refused n) e = e
+    go : (v : Answer) → RecordAfter s v old new → new ≡ record_for s v old
+    go (Ok Consistent) e = e
+    go (Ok (Violated set)) r = r.is ∙ ap (λ (bytes : List ℕ). with_record bytes old) (shown set r)
+    go (Err f) e = e
 
 pub one_answer : OneAnswer
 one_answer s work work' work'' old new new' v v' j k =
     let e : v ≡ v' = j.answer ∙ sym k.answer in
     record {
       answers = e;
-      works = j.area_after ∙ ap (λ (x : Judgement). work_after x work) e ∙ sym k.area_after;
-      records = record_is s work work' old new v j ∙ ap (λ (x : Judgement). record_for s x old) e ∙ sym (record_is s work work'' old new' v' k);
+      works = j.area_after ∙ ap (λ (x : Answer). work_after x work) e ∙ sym k.area_after;
+      records = record_is s work work' old new v j ∙ ap (λ (x : Answer). record_for s x old) e ∙ sym (record_is s work work'' old new' v' k);
     }

@@ -11,14 +11,14 @@ use Rattle.outcomes.proofs.ThreeLevels.{in_plan_sets, out_plan_sets}
 use Rattle.outcomes.proofs.VerdictSets.{verdict_sets}
 use Rattle.plan.specs.Reading.{bytes_of, read_of}
 use Rattle.plan.specs.declared.Layout.{Layout}
-use Rattle.plan.specs.declared.Reading.TheVariants.{Accepted}
 use Rattle.plan.proofs.Demand1.{demand1}
 use Rattle.job.specs.Demand2.{plan_process}
 use Rattle.sets.specs.PlanSets.{leaf_set, action_sets}
+use Rattle.std.specs.Prelude.{Ok}
 use Rattle.judge.specs.Verdict.{plan_sets_of}
 use Rattle.judge.specs.Shown.{run_set}
 
-module _ (s : List ℕ) (l : Layout) (h : read_of s ≡ Accepted l) where
+module _ (s : List ℕ) (l : Layout) (h : read_of s ≡ Ok l) where
   abbrev nodes : List ℕ
   nodes = bytes_of s l.nodes
 

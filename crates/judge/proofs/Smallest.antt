@@ -6,8 +6,7 @@ use Prim.Native.Nat.{ℕ, ◌≤◌, ◌<◌}
 use native.Mathlib.Omega.{arith}
 use lib.Dec.{ltb}
 use borrow.Author.Tests.{ltb-true, ltb-false}
-use Rattle.least.specs.declared.Least.{Least}
-use Rattle.least.specs.declared.Least.TheVariants.{Found, Nothing}
+use Rattle.std.specs.Prelude.{Option, Some, None}
 use Rattle.judge.specs.Verdict.{or_smaller, smallest}
 
 module _ (p : ℕ → Bool) where
@@ -18,15 +17,15 @@ module _ (p : ℕ → Bool) where
     pub least : (t : ℕ) → F t → p t ≡ true → u ≤ t
 
   -- what an answer says of the numbers that are so
-  abbrev pub Tells : (ℕ → Type 0) → Least → Type 0
-  Tells F (Found u) = IsSmallest F u
-  Tells F Nothing = (t : ℕ) → F t → p t ≡ false
+  abbrev pub Tells : (ℕ → Type 0) → Option ℕ → Type 0
+  Tells F (Some u) = IsSmallest F u
+  Tells F None = (t : ℕ) → F t → p t ≡ false
 
   abbrev Among : List ℕ → ℕ → Type 0
   Among ts t = Memᴰ t ts
 
-  passed : (t : ℕ) (ts : List ℕ) (x : Least) → p t ≡ false → Tells (Among ts) x → Tells (Among (t ∷ ts)) x
-  passed t ts (Found u) e h = record {
+  passed : (t : ℕ) (ts : List ℕ) (x : Option ℕ) → p t ≡ false → Tells (Among ts) x → Tells (Among (t ∷ ts)) x
+  passed t ts (Some u) e h = record {
     is = Memᴰ.tail h.is;
     holds = h.holds;
     least = λ v m k. go v m k;
@@ -35,19 +34,19 @@ module _ (p : ℕ → Bool) where
       go : (v : ℕ) → Memᴰ v (t ∷ ts) → p v ≡ true → u ≤ v
       go v (Memᴰ.head z) k = absurd (true≢false (sym k ∙ ap p z ∙ e))
       go v (Memᴰ.tail m) k = h.least v m k
-  passed t ts Nothing e h = go
+  passed t ts None e h = go
     where
       go : (v : ℕ) → Memᴰ v (t ∷ ts) → p v ≡ false
       go v (Memᴰ.head z) = ap p z ∙ e
       go v (Memᴰ.tail m) = h v m
 
-  kept : (t : ℕ) (ts : List ℕ) (x : Least) → p t ≡ true → Tells (Among ts) x → Tells (Among (t ∷ ts)) (or_smaller t x)
-  kept t ts Nothing e h = record { is = Memᴰ.head refl; holds = e; least = go }
+  kept : (t : ℕ) (ts : List ℕ) (x : Option ℕ) → p t ≡ true → Tells (Among ts) x → Tells (Among (t ∷ ts)) (or_smaller t x)
+  kept t ts None e h = record { is = Memᴰ.head refl; holds = e; least = go }
     where
       go : (v : ℕ) → Memᴰ v (t ∷ ts) → p v ≡ true → t ≤ v
       go v (Memᴰ.head z) k = omega arith
       go v (Memᴰ.tail m) k = absurd (true≢false (sym k ∙ h v m))
-  kept t ts (Found u) e h = smaller (ltb u t) refl
+  kept t ts (Some u) e h = smaller (ltb u t) refl
     where
       old_least : u < t → (v : ℕ) → Memᴰ v (t ∷ ts) → p v ≡ true → u ≤ v
       old_least l v (Memᴰ.head z) k = omega arith
@@ -57,7 +56,7 @@ module _ (p : ℕ → Bool) where
       new_least l v (Memᴰ.head z) k = omega arith
       new_least l v (Memᴰ.tail m) k = omega (arith, h.least v m k)
 
-      smaller : (b : Bool) → ltb u t ≡ b → Tells (Among (t ∷ ts)) (cond b (Found u) (Found t))
+      smaller : (b : Bool) → ltb u t ≡ b → Tells (Among (t ∷ ts)) (cond b (Some u) (Some t))
       smaller true z = record { is = Memᴰ.tail h.is; holds = h.holds; least = old_least (ltb-true u t z) }
       smaller false z = record { is = Memᴰ.head refl; holds = e; least = new_least (ltb-false u t z) }
 
@@ -74,8 +73,8 @@ module _ (p : ℕ → Bool) where
       go false e h = passed t ts (smallest p ts) e h
 
   -- two answers that tell of the same numbers are the same
-  pub told_once : (F G : ℕ → Type 0) → ((t : ℕ) → F t → G t) → ((t : ℕ) → G t → F t) → (x y : Least) → Tells F x → Tells G y → x ≡ y
-  told_once F G to from (Found u) (Found v) h k = let e : u ≡ v = omega (arith, h.least v (from v k.is) k.holds, k.least u (to u h.is) h.holds) in ap Found e
-  told_once F G to from (Found u) Nothing h k = absurd (true≢false (sym h.holds ∙ k u (to u h.is)))
-  told_once F G to from Nothing (Found v) h k = absurd (true≢false (sym k.holds ∙ h v (from v k.is)))
-  told_once F G to from Nothing Nothing h k = refl
+  pub told_once : (F G : ℕ → Type 0) → ((t : ℕ) → F t → G t) → ((t : ℕ) → G t → F t) → (x y : Option ℕ) → Tells F x → Tells G y → x ≡ y
+  told_once F G to from (Some u) (Some v) h k = let e : u ≡ v = omega (arith, h.least v (from v k.is) k.holds, k.least u (to u h.is) h.holds) in ap Some e
+  told_once F G to from (Some u) None h k = absurd (true≢false (sym h.holds ∙ k u (to u h.is)))
+  told_once F G to from None (Some v) h k = absurd (true≢false (sym k.holds ∙ h v (from v k.is)))
+  told_once F G to from None None h k = refl

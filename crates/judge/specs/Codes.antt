@@ -1,11 +1,10 @@
 -- The codes of answers, for callers that have no enum: a code stands for one answer. The proof is `codes_apart`.
 use Rattle.std.specs.Prelude.{◌≡◌, List, ℕ}
-use Rattle.judge.specs.Verdict.{code_of}
+use Rattle.judge.specs.Verdict.{Answer, code_of}
 use Rattle.judge.specs.Judged.{Judged}
-use Rattle.judge.specs.declared.Judgement.{Judgement}
 
 -- The verdict on some input.
-pub record IsVerdict (v : Judgement) : Type 0 where
+pub record IsVerdict (v : Answer) : Type 0 where
   pub file : List ℕ
   pub work : List ℕ
   pub after : List ℕ
@@ -15,4 +14,4 @@ pub record IsVerdict (v : Judgement) : Type 0 where
 
 -- Two verdicts with one code are one.
 abbrev pub CodesApart : Type 0
-CodesApart = (v w : Judgement) → IsVerdict v → IsVerdict w → code_of v ≡ code_of w → v ≡ w
+CodesApart = (v w : Answer) → IsVerdict v → IsVerdict w → code_of v ≡ code_of w → v ≡ w

@@ -1,23 +1,21 @@
 -- Demand 3, over the runner's own entries: "consistent" is said exactly where every complete run of the plan leaves a set that satisfies
 -- its rule; else the smallest set that breaks it is given, with the plainest complete run that leaves it (N7 of document 02), which a fresh job of the plan
 -- takes entry by entry to its end. `demand3` in proofs/ proves it of every answer that the contract of `verdict` admits; of one input there is one.
-use Rattle.std.specs.Prelude.{◌≡◌, Bool, true, false, List, ◌↔◌, ℕ, ◌≤◌, ◌<◌, length, take}
+use Rattle.std.specs.Prelude.{◌≡◌, Bool, true, false, List, ◌↔◌, ℕ, ◌≤◌, ◌<◌, length, take, Ok}
 use Rattle.std.proofs.Math.Option.{none, some}
 use Rattle.process.specs.Process.{Status, Run}
 use Rattle.process.specs.Figure2.{Complete}
 use Rattle.plan.specs.Reading.{bytes_of, read_of}
+use Rattle.plan.specs.Reading as reading
 use Rattle.plan.specs.declared.Layout.{Layout}
-use Rattle.plan.specs.declared.Reading.TheVariants.{Accepted}
-use Rattle.plan.specs.declared.Reading.TheVariants as reading
 use Rattle.bodies.specs.Rule.{Rule}
 use Rattle.meaning.specs.Meaning.{meaning}
 use Rattle.state.specs.declared.Entry.{Entry}
 use Rattle.job.specs.Offer.{started, TakesToEnd}
 use Rattle.job.specs.Demand2.{plan_process}
-use Rattle.judge.specs.Verdict.{work_size, record_size, verdict_of, number_of, says_consistent, set_given}
+use Rattle.judge.specs.Verdict.{Answer, work_size, record_size, verdict_of, number_of, says_consistent, set_given}
 use Rattle.judge.specs.Shown.{shown_entries, shown_run, run_set, PlainestOf, OnlyShown}
 use Rattle.judge.specs.Judged.{Judged, OneAnswer}
-use Rattle.judge.specs.declared.Judgement.{Judgement}
 
 -- "A run is offered to a fresh job where its first entry goes to the job that the start gave and each later one to the job that the one
 -- before it gave back": every entry of the whole run is taken, and after the last one the run may end with the status.
@@ -46,19 +44,19 @@ pub record Violation (s : List ℕ) (l : Layout) (rule : PlanRule s l) (set : �
   pub smallest : (run : Run) (t : Status) → Complete (plan_process s l) run t → keeps s l rule (run_set s l run) ≡ false → set ≤ run_set s l run
 
 -- What an answer says, of an accepted plan file.
-pub record Says (s : List ℕ) (l : Layout) (rule : PlanRule s l) (new : List ℕ) (v : Judgement) : Type 0 where
+pub record Says (s : List ℕ) (l : Layout) (rule : PlanRule s l) (new : List ℕ) (v : Answer) : Type 0 where
   pub not_refused : number_of v ≡ none
   pub consistent : (says_consistent v ≡ true) ↔ AllKeep s l rule
   pub violated : says_consistent v ≡ false → Violation s l rule (set_given v) (take record_size new)
 
 pub record Demand3 : Type 0 where
   -- an accepted file, and areas that are large enough
-  pub says : (s work work' old new : List ℕ) (v : Judgement) → Judged s work work' old new v → work_size ≤ length work → record_size ≤ length old
-      → (l : Layout) → read_of s ≡ Accepted l → (rule : PlanRule s l) → Says s l rule new v
+  pub says : (s work work' old new : List ℕ) (v : Answer) → Judged s work work' old new v → work_size ≤ length work → record_size ≤ length old
+      → (l : Layout) → read_of s ≡ Ok l → (rule : PlanRule s l) → Says s l rule new v
   -- the run shown is the only one that may be, and so is the whole answer
   pub only_shown : OnlyShown
   pub one_answer : OneAnswer
   -- every other input is refused: 10, then 12, then by the file's number
   pub no_work : (s : List ℕ) (work records : ℕ) → work < work_size → number_of (verdict_of s work records) ≡ some 10
   pub no_record : (s : List ℕ) (work records : ℕ) → work_size ≤ work → records < record_size → number_of (verdict_of s work records) ≡ some 12
-  pub no_plan : (s : List ℕ) (work records : ℕ) → work_size ≤ work → record_size ≤ records → (n : ℕ) → read_of s ≡ reading.Refused n → number_of (verdict_of s work records) ≡ some n
+  pub no_plan : (s : List ℕ) (work records : ℕ) → work_size ≤ work → record_size ≤ records → (n : ℕ) → reading.number_of (read_of s) ≡ some n → number_of (verdict_of s work records) ≡ some n

@@ -6,7 +6,7 @@ use Rattle.sets.specs.PlanSets.{sets_of}
 use Rattle.plainest.specs.Shown.{LeftBy, plainest_bytes}
 use Rattle.judge.specs.Verdict.{smallest, answer_of, work_size, record_size}
 use Rattle.judge.specs.declared.Judgement.{Judgement}
-use Rattle.judge.specs.declared.Judgement.TheVariants.{Consistent, Violated, Refused}
+use Rattle.judge.specs.declared.Judgement.TheVariants.{Consistent, Violated}
 
 -- The bytes of the plainest run that leaves the set, which some run does.
 pub record Leads (types b : List ℕ) (set : ℕ) (bytes : List ℕ) : Type 0 where
@@ -17,7 +17,6 @@ pub record Leads (types b : List ℕ) (set : ℕ) (bytes : List ℕ) : Type 0 wh
 abbrev pub RunFor : List ℕ → List ℕ → Judgement → List ℕ → Type 0
 RunFor types b Consistent bytes = bytes ≡ replicate record_size 0
 RunFor types b (Violated set) bytes = Leads types b set bytes
-RunFor types b (Refused n) bytes = ⊥
 
 pub record JudgedPlan (types pairs b rule old new : List ℕ) (v : Judgement) (run : List ℕ) : Type 0 where
   pub answer : v ≡ answer_of (smallest (λ t. not (satisfies rule pairs t)) (sets_of types b))

@@ -1,13 +1,11 @@
 -- The smallest of a plan's sets that breaks its rule, "read as a number", from the families of its whole process.
-use Rattle.std.specs.Prelude.{◌≡◌, Bool, true, false, not, ◌&&◌, List, ℕ, ◌%◌, ◌≤◌, eqb}
+use Rattle.std.specs.Prelude.{◌≡◌, Bool, true, false, not, ◌&&◌, Option, Some, None, List, ℕ, ◌%◌, ◌≤◌, eqb}
 use Rattle.family.specs.Family.{bit_at, In}
 use Rattle.process.specs.Process.{Status}
 use Rattle.outcomes.specs.ThreeLevels.{Final3}
 use Rattle.meaning.specs.Value.{satisfies}
 use Rattle.summary.specs.declared.Summary.{Summary}
 use Rattle.summary.specs.Summary.{family_of}
-use Rattle.least.specs.declared.Least.{Least}
-use Rattle.least.specs.declared.Least.TheVariants.{Found, Nothing}
 
 -- The set t stands under a code of a complete run.
 pub record FinalSet (s : Summary) (t : ℕ) : Type 0 where
@@ -36,6 +34,6 @@ pub record Smallest (rule pairs f : List ℕ) (t : ℕ) : Type 0 where
   pub least : (u : ℕ) → In f u → Breaks rule pairs u → t ≤ u
 
 -- What is answered: that set, or that every set of the family satisfies the rule.
-abbrev pub LeastOf : List ℕ → List ℕ → List ℕ → Least → Type 0
-LeastOf rule pairs f (Found t) = Smallest rule pairs f t
-LeastOf rule pairs f Nothing = (u : ℕ) → In f u → satisfies rule pairs u ≡ true
+abbrev pub LeastOf : List ℕ → List ℕ → List ℕ → Option ℕ → Type 0
+LeastOf rule pairs f (Some t) = Smallest rule pairs f t
+LeastOf rule pairs f None = (u : ℕ) → In f u → satisfies rule pairs u ≡ true

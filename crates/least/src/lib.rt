@@ -8,23 +8,18 @@ ghost use Rattle.least.specs.Least.{Finals, violates, LeastOf};
 
 use summary::Summary;
 
-#[derive(Drop)]
-pub enum Least {
-    Found(usize),
-    Nothing,
-}
-
 // The sets of the whole process that complete runs leave: those under 1, 9, 13 and 14.
 pub fn finals(s: Summary) -> [u64; 16]
     ensures { Finals s result }
 {
-    let s1 = s.s1;
-    let s9 = s.s9;
-    let s13 = s.s13;
-    let s14 = s.s14;
-    let not_undone = family::join(s13, s14);
-    let failed = family::join(s9, not_undone);
-    family::join(s1, failed)
+    let Summary {
+        s1,
+        s9,
+        s13,
+        s14,
+        ..
+    } = s;
+    family::join(s1, family::join(s9, family::join(s13, s14)))
 }
 
 // The sets of a word of the family that break the rule: bit i for the set 64 w + i. A word without sets is passed over.
@@ -37,21 +32,17 @@ fn violations(rule: &[u8], masks: &[u64; 256], sets: u64, w: u32) -> u64
     sets & !rule::satisfying(rule, masks, w)
 }
 
-// The smallest set of the family that breaks the rule. The pairs are made into masks once.
-pub fn find(rule: &[u8], pairs: &[u8], f: [u64; 16]) -> Least
+// The smallest set of the family that breaks the rule; none where every set satisfies it. The pairs are made into masks once.
+pub fn find(rule: &[u8], pairs: &[u8], f: [u64; 16]) -> Option<usize>
     ensures { LeastOf rule.now pairs.now f result }
 {
     let mut masks = [0u64; 256];
     undos::fill(&mut masks, pairs);
-    let mut w = 0;
-    while w < 16 {
+    for w in 0..16 {
         let broken = violations(rule, &masks, f[w], w as u32);
         if broken != 0 {
-            let low = u64::trailing_zeros(broken) as usize;
-            let set = w * 64 + low;
-            return Least::Found(set);
+            return Some(w * 64 + broken.trailing_zeros() as usize);
         }
-        w += 1;
     }
-    Least::Nothing
+    None
 }

@@ -3,7 +3,7 @@
 #![tactic(auto)]
 
 // The two values of a part of the rule.
-#[derive(Drop)]
+#[derive(Clone, Copy)]
 pub struct Value {
     pub positive: bool,
     pub negative: bool,

@@ -3,11 +3,11 @@ use mathlib.Core.Path.{◌≡◌, refl, sym, ◌∙◌}
 use mathlib.Core.Bool.{Bool, true, false, cond}
 use mathlib.Core.List.{List}
 use mathlib.Core.Logic.{◌↔◌, ◌⊎◌, inl, inr}
-use Prim.Native.Nat.{ℕ, ◌+◌, ◌-◌, ◌≤◌, ◌<◌}
+use Prim.Native.Nat.{ℕ, zero, suc, ◌+◌, ◌-◌, ◌*◌, ◌≤◌, ◌<◌}
 use native.Mathlib.Omega.{arith}
 use lib.Dec.{leb, eqb}
 use borrow.Author.Tests.{leb-true, leb-false, le-leb, lt-leb, eqb-true, eqb-false, eq-eqb, ne_eqb}
-use Rattle.blocks.specs.Bounded.{one}
+use Rattle.blocks.specs.Bounded.{total, one}
 use Rattle.blocks.proofs.Bounded.{one_most, decide, every_at, every_all, total_has, total_two, total_some, total_single}
 use Rattle.nodes.specs.Nodes.{count, form, left, right, Side, on_left, on_right, child, Names, NamedOnce, EachNamedOnce}
 use Rattle.nodes.specs.NodeTests.{naming, times_named, named_ok}
@@ -22,6 +22,15 @@ naming_most j f l r = go (leb 3 f)
     go : (t : Bool) → cond t (one (eqb l j) + one (eqb r j)) 0 ≤ 2
     go true = omega (arith, one_most (eqb l j), one_most (eqb r j))
     go false = omega arith
+
+-- so the sum over the nodes fits where the bytes do
+pub named_most : (b : List ℕ) (j : ℕ) → times_named b j ≤ 2 * count b
+unfolding total
+named_most b j = upto (count b)
+  where
+    upto : (n : ℕ) → total n (λ i. naming j (form b i) (left b i) (right b i)) ≤ 2 * n
+    upto zero = omega arith
+    upto (suc n) = omega (arith, naming_most j (form b n) (left b n) (right b n), upto n)
 
 module _ (b : List ℕ) (j : ℕ) where
   -- how often node i names j

@@ -1,14 +1,13 @@
 -- A test that antt computes at all 245 places of the chart, and the law that carries it to each cell. The chart as a list has each cell at
--- its place (`cell_in_chart`).
-use mathlib.Core.Path.{◌≡◌, refl, ◌∙◌, fun_ext}
-use mathlib.Core.Bool.{Bool, true, false, cond, ◌&&◌}
+-- its place (`in_chart`).
+use mathlib.Core.Path.{◌≡◌, refl}
+use mathlib.Core.Bool.{Bool, true, false, ◌&&◌}
 use Prim.Native.Nat.{ℕ, zero, suc, ◌+◌, ◌-◌, ◌*◌, ◌/◌, ◌%◌, ◌≤◌, ◌<◌}
 use native.Mathlib.Omega.{arith}
-use lib.Dec.{T, ltb}
+use lib.Dec.{T}
 use lib.ListN.{get_or}
-use borrow.Author.Tests.{ltb-false}
 use Rattle.outcomes.specs.Cells.{cell}
-use Rattle.outcomes.specs.Table.{listed, chart, cell_in}
+use Rattle.outcomes.specs.Table.{listed, chart}
 
 -- a test at each number below n
 abbrev pub below : ℕ → (ℕ → Bool) → Bool
@@ -46,17 +45,6 @@ get_d_listed zero f k h = absurd (omega arith)
 get_d_listed (suc n) f zero h = refl
 get_d_listed (suc n) f (suc k) h = get_d_listed n (λ k. f (suc k)) k (omega arith)
 
-in_chart : (form l r : ℕ) → 3 ≤ form → form ≤ 7 → l < 7 → r < 7 → get_or chart ((form - 3) * 49 + l * 7 + r) 0 ≡ cell form l r
+pub in_chart : (form l r : ℕ) → 3 ≤ form → form ≤ 7 → l < 7 → r < 7 → get_or chart ((form - 3) * 49 + l * 7 + r) 0 ≡ cell form l r
 unfolding chart
 in_chart = at_place (λ k form l r. get_or chart k 0 ≡ cell form l r) (get_d_listed 245 (λ k. cell (k / 49 + 3) (k / 7 % 7) (k % 7)))
-
-pub unless : (b : Bool) (z x y : ℕ) → (b ≡ false → x ≡ y) → cond b z x ≡ cond b z y
-unless true z x y h = refl
-unless false z x y h = h refl
-
--- what the chart gives is the cell, inside and outside of it
-pub cell_in_chart : (form : ℕ) → cell_in chart form ≡ cell form
-unfolding cell_in cell
-cell_in_chart form = fun_ext (λ l. fun_ext (λ r.
-    unless (ltb form 3) 7 _ _ (λ e₁. unless (ltb 7 form) 7 _ _ (λ e₂. unless (ltb 6 l) 7 _ _ (λ e₃. unless (ltb 6 r) 7 _ _ (λ e₄.
-    in_chart form l r (ltb-false _ _ e₁) (ltb-false _ _ e₂) (omega (arith, ltb-false 6 l e₃)) (omega (arith, ltb-false 6 r e₄)) ∙ simp (e₁, e₂, e₃, e₄)))))))

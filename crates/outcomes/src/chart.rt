@@ -2,7 +2,6 @@
 // code 0 to 6, right code 0 to 6, the right changing fastest.
 ghost use Rattle.std.specs.Prelude.{◌≡◌};
 ghost use Rattle.outcomes.specs.Cells.{cell};
-ghost use Rattle.outcomes.specs.Table.{cell_in, chart};
 
 const CHART: [u8; 245] = [
     // Sequence, left 0.
@@ -77,36 +76,13 @@ const CHART: [u8; 245] = [
     7, 1, 2, 3, 4, 5, 6,
 ];
 
-// The whole chart.
-fn table() -> [u8; 245]
-    ensures { result ≡ chart }
-{
-    CHART
-}
-
-// What a lent table gives a node of the form for the codes of its sides: 7 where these are no codes, or it is no such form.
-fn cell_in(table: &[u8; 245], form: u8, left: u8, right: u8) -> u8
-    ensures { result ≡ cell_in table.now form left right }
-{
-    if form < 3 {
-        return 7;
-    }
-    if 7 < form {
-        return 7;
-    }
-    if 6 < left {
-        return 7;
-    }
-    if 6 < right {
-        return 7;
-    }
-    table[(form - 3) as usize * 49 + left as usize * 7 + right as usize]
-}
-
-// The code of a node of the form, from the codes of its sides: 7 where the two cannot occur.
+// The code of a node of the form, from the codes of its sides: 7 where the two cannot occur, where these are no codes, or where it is no
+// such form.
 pub fn cell(form: u8, left: u8, right: u8) -> u8
     ensures { result ≡ cell form left right }
 {
-    let t = table();
-    cell_in(&t, form, left, right)
+    if form < 3 || 7 < form || 6 < left || 6 < right {
+        return 7;
+    }
+    CHART[usize::from(form - 3) * 49 + usize::from(left) * 7 + usize::from(right)]
 }

@@ -86,25 +86,28 @@ const ROWS: [u64; 75] = [
     0xfe0cba087054320,
 ];
 
-// All rows, for a caller that looks up many.
-pub fn table() -> [u64; 75]
-    ensures { result ≡ rows }
-{
-    ROWS
+// The rows, for a caller that looks up many.
+#[derive(Clone, Copy)]
+pub struct Rows {
+    pub by: [u64; 75],
+    ghost whole: { by ≡ rows },
+}
+
+impl Rows {
+    pub fn new() -> Self
+        ensures { result.by ≡ rows }
+    {
+        Rows { by: ROWS }
+    }
 }
 
 // The row that a lent table has for a form and a left code; empty where it is no such form, or this is no code.
+#[tactic(auto, unfolding(crate::specs::Rows::row_in))]
 pub fn row_in(table: &[u64; 75], form: u8, left: u8) -> u64
     ensures { result ≡ row_in table.now form left }
 {
-    if form < 3 {
+    if form < 3 || 7 < form || 14 < left {
         return 0;
     }
-    if 7 < form {
-        return 0;
-    }
-    if 14 < left {
-        return 0;
-    }
-    table[(form - 3) as usize * 15 + left as usize]
+    table[usize::from(form - 3) * 15 + usize::from(left)]
 }

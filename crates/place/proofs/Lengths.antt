@@ -10,25 +10,25 @@ use lib.Seq.{take_all, length-take-le}
 use borrow.Author.Tests.{leb-true, leb-false}
 use Rattle.plan.specs.PlanFile.{most_bytes}
 use Rattle.plan.specs.Reading.{read_of}
-use Rattle.plan.specs.declared.Reading.{Reading}
-use Rattle.plan.specs.declared.Reading.TheVariants as reading
+use Rattle.plan.specs.declared.Fault.{Fault}
+use Rattle.plan.specs.declared.Layout.{Layout}
+use Rattle.std.specs.Prelude.{Result, Ok, Err}
 use Rattle.plan.proofs.Demand1.{demand1}
-use Rattle.judge.specs.Verdict.{work_size, record_size}
+use Rattle.judge.specs.Verdict.{Answer, work_size, record_size}
 use Rattle.judge.specs.Record.{record_for}
-use Rattle.judge.specs.declared.Judgement.{Judgement}
-use Rattle.judge.specs.declared.Judgement.TheVariants as judgement
+use Rattle.judge.specs.declared.Refusal.TheVariants.{Plan}
 use Rattle.judge.proofs.Demand3.{refused_file}
 use Rattle.place.specs.Place.{place_of, zero_record, Placed, place_for, AnyLength}
 use Rattle.place.proofs.Places.{one_place, place_for_lem}
 
 -- a refused file's place has its number, and nothing else of it
-refused_place : (f : List ℕ) (n : ℕ) → read_of f ≡ reading.Refused n → place_for f ≡ place_of (judgement.Refused n) zero_record
-refused_place f n e = ap (λ (v : Judgement). place_of v (record_for f v zero_record)) (refused_file f work_size record_size (omega arith) (omega arith) n e)
+refused_place : (f : List ℕ) (why : Fault) → read_of f ≡ Err why → place_for f ≡ place_of (Err (Plan why)) zero_record
+refused_place f why e = ap (λ (v : Answer). place_of v (record_for f v zero_record)) (refused_file f work_size record_size (omega arith) (omega arith) why e)
 
 module _ (f : List ℕ) (n : ℕ) (h : most_bytes < n) where
-  long_place : n ≤ length f → (r : Reading) → read_of (take n f) ≡ r → place_for (take n f) ≡ place_for f
-  long_place k (reading.Accepted l) e = absurd (omega (arith, demand1.most (take n f) l e, length-take-le n f k))
-  long_place k (reading.Refused m) e = refused_place (take n f) m e ∙ sym (refused_place f m (sym (demand1.beginning f n h k) ∙ e))
+  long_place : n ≤ length f → (r : Result Layout Fault) → read_of (take n f) ≡ r → place_for (take n f) ≡ place_for f
+  long_place k (Ok l) e = absurd (omega (arith, demand1.most (take n f) l e, length-take-le n f k))
+  long_place k (Err why) e = refused_place (take n f) why e ∙ sym (refused_place f why (sym (demand1.beginning f n h k) ∙ e))
 
   same_place : (b : Bool) → leb n (length f) ≡ b → place_for (take n f) ≡ place_for f
   same_place true e = long_place (leb-true n (length f) e) (read_of (take n f)) refl

@@ -1,4 +1,3 @@
-pub mod Shown
 pub mod Places
 pub mod Lists
 pub mod Lengths

@@ -39,6 +39,13 @@ same_test k x = go (eqb x k) refl
         let other : min (k + 1) x ≡ k → ⊥ = λ h. z (omega arith) in
         ne_eqb _ _ other
 
+module _ (types b : List ℕ) (S : ℕ) (all : Searchable most_actions types b S) where
+  least : (table : List ℕ) → length table ≡ 63 → LeastBelow unreached (Leaving types b S table) (fewest_left types b S table)
+  least table h = searched_least most_actions types b S all table h
+
+  pub asked : (bound : ℕ) (table : List ℕ) (x : ℕ) → bound ≤ unreached → length table ≡ 63 → LeastBelow bound (Leaving types b S table) x → x ≡ min bound (fewest_left types b S table)
+  asked bound table x h l m = only_least bound (Leaving types b S table) x _ m (least_lower h (least table l))
+
 module _ (types b : List ℕ) (plan : Runnable types b) (S : ℕ) (small : S < 2 ^ most_actions) where
   pub searchable : Searchable most_actions types b S
   searchable = record {
@@ -53,16 +60,17 @@ module _ (types b : List ℕ) (plan : Runnable types b) (S : ℕ) (small : S < 2
     within = small;
   }
 
-  least : (table : List ℕ) → length table ≡ 63 → LeastBelow unreached (Leaving types b S table) (fewest_left types b S table)
-  least table h = searched_least most_actions types b S searchable table h
-
-  pub asked : (bound : ℕ) (table : List ℕ) (x : ℕ) → bound ≤ unreached → length table ≡ 63 → LeastBelow bound (Leaving types b S table) x → x ≡ min bound (fewest_left types b S table)
-  asked bound table x h l m = only_least bound (Leaving types b S table) x _ m (least_lower h (least table l))
-
   pub known : LeftBy types b S → Searched types b S (fewest_left types b S fresh_table)
   known r = record {
     plan = plan;
-    least = least;
+    least = least types b S searchable;
     fresh = refl;
-    low = omega (arith, (least fresh_table refl).least (failures r.run) (leaving_fresh types b S r.run r.status r.complete r.leaves), few_failures r.run, complete_short types b plan r.run r.status r.complete);
+    low = omega (arith, (least types b S searchable fresh_table refl).least (failures r.run) (leaving_fresh types b S r.run r.status r.complete r.leaves), few_failures r.run, complete_short types b plan r.run r.status r.complete);
   }
+
+  -- where some complete run leaves the set, the search from the fresh table finds the fewest
+  pub found : LeftBy types b S → (x : ℕ) → LeastBelow unreached (Leaving types b S fresh_table) x → (x ≡ fewest_left types b S fresh_table) × (x < unreached)
+  found r x m =
+      let low = (known r).low in
+      let e = asked types b S searchable unreached fresh_table x (omega arith) refl m in
+      (omega (arith, e, low), omega (arith, e, low))

@@ -2,13 +2,11 @@
 -- no entry is found they go on to a run that leaves the set with the fewest failed entries, and with no entry more: they are that run. A run has
 -- at most 63 entries, so that the steps suffice.
 use mathlib.Core.Path.{◌≡◌, refl}
-use mathlib.Core.Bool.{cond}
 use mathlib.Core.List.{List, [], ◌∷◌, ◌++◌, map, append-nil, append_assoc}
 use Prim.Native.Nat.{ℕ, zero, suc, ◌+◌, ◌≤◌, ◌<◌}
 use native.Mathlib.Omega.{arith}
-use borrow.Author.Tests.{eq-eqb}
-use lib.Dec.{eqb}
 use lib.ListN.{length, set, length-append}
+use Rattle.std.proofs.Common.{Option, Some}
 use Rattle.process.specs.Process.{Status, ok, fail, entry, Run}
 use Rattle.process.specs.Process as process
 use Rattle.nodes.specs.Nodes.{count}
@@ -19,7 +17,7 @@ use Rattle.job.specs.Offer.{status_number, run_entry}
 use Rattle.job.proofs.Outcomes.{Stands, stands_fresh, stands_more}
 use Rattle.sets.specs.PlanSets.{leaf_set}
 use Rattle.plainest.specs.Greedy.{Next, Chosen, at_first, and_then}
-use Rattle.plainest.specs.Shown.{fewest_left, next_entry, entries_after, plainest_run, PlainestShown}
+use Rattle.plainest.specs.Shown.{fewest_left, next_entry, and_after, entries_after, plainest_run, PlainestShown}
 use Rattle.plainest.proofs.Greedy.{leads_entry}
 use Rattle.plainest.proofs.Tables.{leaf_low, complete_short}
 use Rattle.plainest.proofs.Left.{Searched, GoodRun, LeadsOn, greedy, at_least, start_leads, leads_begins}
@@ -34,8 +32,8 @@ module _ (types b : List ℕ) (S k : ℕ) (known : Searched types b S k) where
   abbrev after : ℕ → List ℕ → Run
   after m table = map run_entry (entries_after types b S k m table)
 
-  abbrev from : ℕ → List ℕ → Entry → Run
-  from m table e = map run_entry (cond (eqb e.outcome 0) [] (e ∷ entries_after types b S k m (set table e.leaf e.outcome)))
+  abbrev from : ℕ → List ℕ → Option Entry → Run
+  from m table e = map run_entry (and_after types b S k e (λ e. entries_after types b S k m (set table e.leaf e.outcome)))
 
   -- what is chosen to its end
   record Ends (w : Run) : Type 0 where
@@ -76,16 +74,16 @@ module _ (types b : List ℕ) (S k : ℕ) (known : Searched types b S k) where
       none : ((n : ℕ) (s : Status) → n < count b → ¬ LeadsOn types b S k (w ++ (entry n s ∷ []))) → (e : process.Entry) → ¬ LeadsOn types b S k (w ++ (e ∷ []))
       none f (entry n s) g = f n s (leads_low types b S k known w n s g) g
 
-      more : (n : ℕ) (s : Status) (e : Entry) → e ≡ record { leaf = n; outcome = status_number s }
+      more : (n : ℕ) (s : Status) (e : Option Entry) → e ≡ Some (record { leaf = n; outcome = status_number s })
           → Ends ((w ++ (entry n s ∷ [])) ++ after m (set table n (status_number s))) → Ends (w ++ from m table e)
       more n ok e i x = rw i (rw (append_assoc w (entry n ok ∷ []) (after m (set table n 1))) at x)
       more n fail e i x = rw i (rw (append_assoc w (entry n fail ∷ []) (after m (set table n 2))) at x)
 
-      by : (e : Entry) → Step types b S k known w (count b) e
+      by : (e : Option Entry) → Step types b S k known w (count b) e
           → ((n : ℕ) (s : Status) → n < count b → Next (process_of types b) (leaf_set b) S k w (entry n s)
           → Ends ((w ++ (entry n s ∷ [])) ++ after m (set table n (status_number s))))
           → Ends (w ++ from m table e)
-      by e (stops z f) go = rw (eq-eqb e.outcome 0 z) (ended w c (none f))
+      by e (stops z f) go = rw z (ended w c (none f))
       by e (goes n s l i x) go = more n s e i (go n s l x)
 
 pub plainest_shown : PlainestShown

@@ -7,7 +7,8 @@ use mathlib.Core.Logic.{◌⊎◌, inl, inr}
 use Prim.Native.Nat.{ℕ, zero, suc, ◌+◌, ◌<◌}
 use native.Mathlib.Omega.{arith}
 use borrow.Author.Tests.{eqb-true, eq-eqb, ltb-true, ltb-false}
-use lib.Dec.{eqb, ltb}
+use lib.Dec.{ltb}
+use Rattle.std.proofs.Common.{Option, None, Some}
 use Rattle.process.specs.Process.{Status, ok, fail, entry, Run}
 use Rattle.process.specs.Depth.{most_undos}
 use Rattle.process.specs.Process as process
@@ -23,7 +24,7 @@ use Rattle.job.proofs.Outcomes.{Stands, told_of}
 use Rattle.job.proofs.Comes.{told_begins, next_leaf}
 use Rattle.sets.specs.PlanSets.{leaf_set}
 use Rattle.plainest.specs.Greedy.{Sooner, by_leaf, by_outcome, Next}
-use Rattle.plainest.specs.Shown.{fits, outcome_for, entry_from, next_entry}
+use Rattle.plainest.specs.Shown.{fits, outcome_for, or_later, entry_from, next_entry}
 use Rattle.plainest.proofs.Tables.{leaf_low}
 use Rattle.plainest.proofs.Left.{Searched, LeadsOn, leads_begins, leads_fits, fits_leads}
 
@@ -32,15 +33,15 @@ module _ (types b : List ℕ) (S k : ℕ) (known : Searched types b S k) where
   Goes w n s = LeadsOn types b S k (w ++ (entry n s ∷ []))
 
   -- what the outcome that is looked up for a leaf says
-  data ByLeaf (w : Run) (n o : ℕ) : Type 0 where
-    neither : o ≡ 0 → ((s : Status) → ¬ Goes w n s) → ByLeaf w n o
-    finishes : o ≡ 1 → Goes w n ok → ByLeaf w n o
-    only_fails : o ≡ 2 → ¬ Goes w n ok → Goes w n fail → ByLeaf w n o
+  data ByLeaf (w : Run) (n : ℕ) (o : Option ℕ) : Type 0 where
+    neither : o ≡ None → ((s : Status) → ¬ Goes w n s) → ByLeaf w n o
+    finishes : o ≡ Some 1 → Goes w n ok → ByLeaf w n o
+    only_fails : o ≡ Some 2 → ¬ Goes w n ok → Goes w n fail → ByLeaf w n o
 
   -- what the entry that is looked up of the leaves below a bound says
-  pub data Step (w : Run) (bound : ℕ) (e : Entry) : Type 0 where
-    stops : e.outcome ≡ 0 → ((n : ℕ) (s : Status) → n < bound → ¬ Goes w n s) → Step w bound e
-    goes : (n : ℕ) (s : Status) → n < bound → e ≡ record { leaf = n; outcome = status_number s } → Next (process_of types b) (leaf_set b) S k w (entry n s)
+  pub data Step (w : Run) (bound : ℕ) (e : Option Entry) : Type 0 where
+    stops : e ≡ None → ((n : ℕ) (s : Status) → n < bound → ¬ Goes w n s) → Step w bound e
+    goes : (n : ℕ) (s : Status) → n < bound → e ≡ Some (record { leaf = n; outcome = status_number s }) → Next (process_of types b) (leaf_set b) S k w (entry n s)
         → Step w bound e
 
   first_goes : (w : Run) (n : ℕ) (s : Status) → ((i : ℕ) (t : Status) → i < n → ¬ Goes w i t) → Goes w n s
@@ -84,7 +85,7 @@ module _ (types b : List ℕ) (S k : ℕ) (known : Searched types b S k) where
         unfit f h ok g = true≢false (sym (goes_fits n ok g) ∙ f)
         unfit f h fail g = true≢false (sym (goes_fits n fail g) ∙ h)
 
-        by : (x y z : Bool) → is_next next n ≡ x → fit n 1 ≡ y → fit n 2 ≡ z → ByLeaf w n (cond x (cond y 1 (cond z 2 0)) 0)
+        by : (x y z : Bool) → is_next next n ≡ x → fit n 1 ≡ y → fit n 2 ≡ z → ByLeaf w n (cond x (cond y (Some 1) (cond z (Some 2) None)) None)
         by false y z e f h = neither refl (λ s g. true≢false (sym (goes_next n s g) ∙ e))
         by true true z e f h = finishes refl (fits_goes n ok e f)
         by true false true e f h = only_fails refl (λ g. true≢false (sym (goes_fits n ok g) ∙ f)) (fits_goes n fail e h)
@@ -110,9 +111,9 @@ module _ (types b : List ℕ) (S k : ℕ) (known : Searched types b S k) where
         after_fail f ok g = absurd (f g)
         after_fail f fail g = inl refl
 
-        by : (o : ℕ) → ByLeaf w n o → (((i : ℕ) (t : Status) → i < suc n → ¬ Goes w i t) → Step w bound (entry_from types b S k table next (suc n) m))
-            → Step w bound (cond (eqb o 0) (entry_from types b S k table next (suc n) m) (record { leaf = n; outcome = o }))
-        by o (neither z f) rest = rw (eq-eqb o 0 z) (rest (below f))
+        by : (o : Option ℕ) → ByLeaf w n o → (((i : ℕ) (t : Status) → i < suc n → ¬ Goes w i t) → Step w bound (entry_from types b S k table next (suc n) m))
+            → Step w bound (or_later types b S k n o (entry_from types b S k table next (suc n) m))
+        by o (neither z f) rest = rw z (rest (below f))
         by o (finishes z g) rest = rw z (goes n ok (omega arith) refl (first_goes w n ok none g after_ok))
         by o (only_fails z f g) rest = rw z (goes n fail (omega arith) refl (first_goes w n fail none g (after_fail f)))
 

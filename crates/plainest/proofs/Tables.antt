@@ -15,11 +15,10 @@ use Rattle.process.specs.Figure2.{Complete}
 use Rattle.nodes.specs.Nodes.{count, form}
 use Rattle.plan.specs.PlanFile.{Runnable}
 use Rattle.plan.specs.Tree.{process_of}
-use Rattle.runs.specs.Cells.{Outcomes, ending, none_run, set_outcome, outcomes_after}
+use Rattle.runs.specs.Cells.{Outcomes, ended_of, ending, none_run, set_outcome, outcomes_after}
 use Rattle.runs.specs.Beginnings.{Begins, occurrences}
 use Rattle.runs.specs.declared.Ended.TheVariants.{Open, Succeeded, Failed}
 use Rattle.runs.proofs.Endings.{ending_one, not_open, not_failed}
-use Rattle.state.specs.State.{outcome_of}
 use Rattle.job.proofs.Outcomes.{Stands}
 use Rattle.job.proofs.Comes.{told_begins, OfLeaf, next_leaf}
 use Rattle.job.proofs.Room.{Below, once_few}
@@ -60,7 +59,7 @@ occurs_after n s table (entry m t ∷ w) h (Memᴰ.head e) =
 occurs_after n s table (entry m t ∷ w) h (Memᴰ.tail o) = occurs_after n s (set_outcome table m t) w (omega arith) o
 
 -- a table's numbers as outcomes
-finished_number : (x : ℕ) → outcome_of x ≡ Succeeded → x ≡ 1
+finished_number : (x : ℕ) → ended_of x ≡ Succeeded → x ≡ 1
 finished_number x h = by (eqb x 0) (eqb x 1) refl h
   where
     by : (a b : Bool) → eqb x 1 ≡ b → cond a Open (cond b Succeeded Failed) ≡ Succeeded → x ≡ 1
@@ -68,21 +67,21 @@ finished_number x h = by (eqb x 0) (eqb x 1) refl h
     by false true e h = eqb-true x 1 e
     by false false e h = not_failed h refl
 
-failed_number : (x : ℕ) → (x ≡ 0 → ⊥) → (x ≡ 1 → ⊥) → outcome_of x ≡ Failed
+failed_number : (x : ℕ) → (x ≡ 0 → ⊥) → (x ≡ 1 → ⊥) → ended_of x ≡ Failed
 failed_number x h k = rw (ne_eqb x 0 h, ne_eqb x 1 k)
 
 -- a run that has a table's outcomes has each of them as an entry
-pub has_entry : (b table : List ℕ) (r : Run) (n : ℕ) (s : Status) → n < count b → form b n < 3 → outcome_of (outcome_at table n) ≡ ending s → Has b table r
+pub has_entry : (b table : List ℕ) (r : Run) (n : ℕ) (s : Status) → n < count b → form b n < 3 → ended_of (outcome_at table n) ≡ ending s → Has b table r
     → Occurs (entry n s) r
 has_entry b table r n ok l f e h = h.finished n l f (finished_number (outcome_at table n) e)
-has_entry b table r n fail l f e h = h.failed n l f (λ z. not_open fail (ap outcome_of z) e) (λ z. not_failed (ap outcome_of z) e)
+has_entry b table r n fail l f e h = h.failed n l f (λ z. not_open fail (ap ended_of z) e) (λ z. not_failed (ap ended_of z) e)
 
 module _ (w : Run) (table : List ℕ) (stands : Stands w table) where
   -- the outcomes of the table are those after the entries: each is one of them
-  pub outcome_is : (n : ℕ) → outcome_of (outcome_at table n) ≡ outcomes_after none_run w n
+  pub outcome_is : (n : ℕ) → ended_of (outcome_at table n) ≡ outcomes_after none_run w n
   outcome_is n = ap (λ (f : Outcomes). f n) stands.same
 
-  in_entries : (n : ℕ) (s : Status) → outcome_of (outcome_at table n) ≡ ending s → Occurs (entry n s) w
+  in_entries : (n : ℕ) (s : Status) → ended_of (outcome_at table n) ≡ ending s → Occurs (entry n s) w
   in_entries n s e = by (after_occurs n s none_run w (sym (outcome_is n) ∙ e))
     where
       by : Occurs (entry n s) w ⊎ (Open ≡ ending s) → Occurs (entry n s) w
@@ -91,7 +90,7 @@ module _ (w : Run) (table : List ℕ) (stands : Stands w table) where
 
   pub entries_has : (b : List ℕ) (r : Run) → AllIn w r → Has b table r
   entries_has b r h = record {
-    finished = λ n c f e. h (entry n ok) (in_entries n ok (ap outcome_of e));
+    finished = λ n c f e. h (entry n ok) (in_entries n ok (ap ended_of e));
     failed = λ n c f x y. h (entry n fail) (in_entries n fail (failed_number (outcome_at table n) x y));
   }
 

@@ -2,20 +2,18 @@
 use mathlib.Core.Path.{◌≡◌, refl, sym, ap, ◌∙◌}
 use mathlib.Core.Bool.{Bool, true, false, cond}
 use mathlib.Core.List.{List, [], ◌∷◌, ◌++◌, map, map-append, append_assoc, append-nil}
-use mathlib.Core.Logic.{◌⊎◌, inl, inr}
 use Prim.Native.Nat.{ℕ, zero, suc, ◌+◌, ◌-◌, ◌*◌, ◌<◌}
 use native.Mathlib.Omega.{arith}
-use borrow.Author.Tests.{eqb-false, eq-eqb, ne_eqb}
-use lib.Dec.{eqb}
+use Rattle.std.proofs.Common.{Option, None, Some}
 use lib.ListN.{length, set, replicate, length-append}
 use lib.Seq.{set_at}
 use Rattle.process.specs.Process.{entry, Run}
 use Rattle.nodes.specs.Nodes.{count}
-use Rattle.state.specs.State.{is_next, fresh_table}
+use Rattle.state.specs.State.{is_next, told_by, fresh_table}
 use Rattle.state.specs.declared.Entry.{Entry}
 use Rattle.job.specs.Offer.{status_number, status_of, run_entry}
 use Rattle.plainest.specs.Bytes.{encode, record_bytes}
-use Rattle.plainest.specs.Shown.{fits, outcome_for, entry_from, next_entry, entries_after, with_entry}
+use Rattle.plainest.specs.Shown.{fits, or_later, entry_from, next_entry, entries_after, with_entry}
 use Rattle.plainest.proofs.Order.{encode_length}
 
 encode_append : (p q : Run) → encode (p ++ q) ≡ encode p ++ encode q
@@ -43,32 +41,30 @@ entry_written w i e h l s =
     let left : 126 - length (u ++ (n ∷ o ∷ [])) ≡ m = omega (arith, length-append u (n ∷ o ∷ [])) in
     rw (more, left, ← long) (two_written u n o m (omega arith))
 
--- what a next entry is
-status_or_none : (a b c : Bool) → let o : ℕ = cond a (cond b 1 (cond c 2 0)) 0 in (o ≡ 0) ⊎ (o ≡ status_number (status_of o))
-status_or_none true true c = inr refl
-status_or_none true false true = inr refl
-status_or_none true false false = inl refl
-status_or_none false b c = inl refl
-
+-- what a next entry is: of a leaf below a bound, with a status
 pub record Proper (bound : ℕ) (e : Entry) : Type 0 where
   pub low : e.leaf < bound
   pub status : e.outcome ≡ status_number (status_of e.outcome)
 
-module _ (types b : List ℕ) (S k : ℕ) where
-  proper : (table : List ℕ) (next n m bound : ℕ) → n + m ≡ bound → ((entry_from types b S k table next n m).outcome ≡ 0 → ⊥) → Proper bound (entry_from types b S k table next n m)
-  unfolding entry_from
-  proper table next n zero bound e h = absurd (h refl)
-  proper table next n (suc m) bound e h = go (eqb (outcome_for types b S k table next n) 0) refl (proper table next (suc n) m bound (omega arith)) (status_or_none (is_next next n) (fits types b S k table n 1) (fits types b S k table n 2))
-    where
-      go : (q : Bool) → eqb (outcome_for types b S k table next n) 0 ≡ q → (((entry_from types b S k table next (suc n) m).outcome ≡ 0 → ⊥) → Proper bound (entry_from types b S k table next (suc n) m))
-          → (outcome_for types b S k table next n ≡ 0) ⊎ (outcome_for types b S k table next n ≡ status_number (status_of (outcome_for types b S k table next n)))
-          → Proper bound (cond q (entry_from types b S k table next (suc n) m) (record { leaf = n; outcome = outcome_for types b S k table next n }))
-      go true q f o = f (λ z. h (rw q z))
-      go false q f (inl z) = absurd (eqb-false _ 0 q z)
-      go false q f (inr z) = record { low = omega arith; status = z }
+abbrev ProperIf : ℕ → Option Entry → Type 0
+ProperIf bound (Some e) = Proper bound e
+ProperIf bound None = Unit {0}
 
-  pub next_proper : (table : List ℕ) → ((next_entry types b S k table).outcome ≡ 0 → ⊥) → Proper (count b) (next_entry types b S k table)
-  next_proper table h = proper table _ 0 (count b) (count b) (omega arith) h
+module _ (types b : List ℕ) (S k : ℕ) where
+  proper : (table : List ℕ) (next n m bound : ℕ) → n + m ≡ bound → ProperIf bound (entry_from types b S k table next n m)
+  unfolding entry_from
+  proper table next n zero bound e = tt
+  proper table next n (suc m) bound e = go (is_next next n) (fits types b S k table n 1) (fits types b S k table n 2) (proper table next (suc n) m bound (omega arith))
+    where
+      go : (x y z : Bool) → ProperIf bound (entry_from types b S k table next (suc n) m)
+          → ProperIf bound (or_later types b S k n (cond x (cond y (Some 1) (cond z (Some 2) None)) None) (entry_from types b S k table next (suc n) m))
+      go true true z h = record { low = omega arith; status = refl }
+      go true false true h = record { low = omega arith; status = refl }
+      go true false false h = h
+      go false y z h = h
+
+  pub next_proper : (table : List ℕ) (e : Entry) → next_entry types b S k table ≡ Some e → Proper (count b) e
+  next_proper table e h = rw h at (proper table (told_by b table).next 0 (count b) (count b) (omega arith))
 
   -- so many entries are written, and these are to come
   pub record Written (i : ℕ) (table run : List ℕ) : Type 0 where
@@ -87,16 +83,15 @@ module _ (types b : List ℕ) (S k : ℕ) where
         let all : entries_after types b S k 63 fresh_table ≡ w.so_far = w.rest ∙ ap (λ (es : List Entry). w.so_far ++ es) e ∙ append-nil w.so_far in
         rw all w.bytes
 
-    pub none_more : i < 63 → (next_entry types b S k table).outcome ≡ 0 → entries_after types b S k (63 - i) table ≡ []
+    pub none_more : i < 63 → next_entry types b S k table ≡ None → entries_after types b S k (63 - i) table ≡ []
     unfolding entries_after
-    none_more l e = let z : 63 - i ≡ suc (62 - i) = omega arith in rw (z, eq-eqb _ _ e)
+    none_more l e = let z : 63 - i ≡ suc (62 - i) = omega arith in rw (z, e)
 
     -- one more
-    pub written_more : i < 63 → ((next_entry types b S k table).outcome ≡ 0 → ⊥) → let e = next_entry types b S k table in Written (i + 1) (set table e.leaf e.outcome) (with_entry run i e)
+    pub written_more : (e : Entry) → i < 63 → next_entry types b S k table ≡ Some e → Written (i + 1) (set table e.leaf e.outcome) (with_entry run i e)
     unfolding entries_after
-    written_more l h =
-        let e = next_entry types b S k table in
-        let p = next_proper table h in
+    written_more e l h =
+        let p = next_proper table e h in
         let z : 63 - i ≡ suc (63 - (i + 1)) = omega arith in
         let runs : map run_entry (w.so_far ++ (e ∷ [])) ≡ map run_entry w.so_far ++ (run_entry e ∷ []) = map-append run_entry w.so_far (e ∷ []) in
         let long : length (map run_entry w.so_far ++ (run_entry e ∷ [])) ≡ length (map run_entry w.so_far) + 1 = length-append (map run_entry w.so_far) (run_entry e ∷ []) in
@@ -104,5 +99,5 @@ module _ (types b : List ℕ) (S k : ℕ) where
           so_far = w.so_far ++ (e ∷ []);
           many = rw runs (omega (arith, long, w.many));
           bytes = rw (runs, w.bytes) (entry_written (map run_entry w.so_far) i e w.many l p.status);
-          rest = w.rest ∙ rw (z, ne_eqb _ _ h) (sym (append_assoc w.so_far (e ∷ []) _));
+          rest = w.rest ∙ rw (z, h) (sym (append_assoc w.so_far (e ∷ []) _));
         }

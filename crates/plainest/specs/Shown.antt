@@ -1,6 +1,6 @@
 -- The plainest run of a plan as it is computed: from the fresh table, of the leaves that the runner tells as next, ascending, with 1 before 2, the first entry after which
 -- the fewest failed entries are still what they were.
-use Rattle.std.specs.Prelude.{◌≡◌, Bool, cond, List, [], ◌∷◌, map, ℕ, zero, suc, ◌+◌, ◌*◌, ◌^◌, ◌≤◌, ◌<◌, eqb, length, set}
+use Rattle.std.specs.Prelude.{◌≡◌, Bool, cond, List, [], ◌∷◌, map, ℕ, zero, suc, ◌+◌, ◌*◌, ◌^◌, ◌≤◌, ◌<◌, eqb, length, set, Option, None, Some}
 use Rattle.process.specs.Process.{Status, Run}
 use Rattle.process.specs.Figure2.{Complete}
 use Rattle.outcomes.specs.Sets.{set_of}
@@ -24,24 +24,32 @@ module _ (types b : List ℕ) (S k : ℕ) where
   abbrev pub fits : List ℕ → ℕ → ℕ → Bool
   fits table n o = eqb (fewest_left types b S (set table n o)) k
 
-  -- The outcome with which leaf n is the next entry, 1 before 2; 0 where there is none.
-  abbrev pub outcome_for : List ℕ → ℕ → ℕ → ℕ
-  outcome_for table next n = cond (is_next next n) (cond (fits table n 1) 1 (cond (fits table n 2) 2 0)) 0
+  -- The outcome with which leaf n is the next entry, 1 before 2; none where it is no next leaf, or fits with neither.
+  abbrev pub outcome_for : List ℕ → ℕ → ℕ → Option ℕ
+  outcome_for table next n = cond (is_next next n) (cond (fits table n 1) (Some 1) (cond (fits table n 2) (Some 2) None)) None
 
-  -- The next entry, of the leaves from n on, so many of them; its outcome is 0 where there is none.
-  unfoldable pub entry_from : List ℕ → ℕ → ℕ → ℕ → Entry
-  entry_from table next n zero = record { leaf = 0; outcome = 0 }
-  entry_from table next n (suc m) = cond (eqb (outcome_for table next n) 0) (entry_from table next (suc n) m) (record { leaf = n; outcome = outcome_for table next n })
+  -- that leaf's entry where it has such an outcome, else the entry of the leaves after it
+  abbrev pub or_later : ℕ → Option ℕ → Option Entry → Option Entry
+  or_later n (Some o) later = Some (record { leaf = n; outcome = o })
+  or_later n None later = later
 
-  abbrev pub next_entry : List ℕ → Entry
+  -- The next entry, of the leaves from n on, so many of them.
+  unfoldable pub entry_from : List ℕ → ℕ → ℕ → ℕ → Option Entry
+  entry_from table next n zero = None
+  entry_from table next n (suc m) = or_later n (outcome_for table next n) (entry_from table next (suc n) m)
+
+  abbrev pub next_entry : List ℕ → Option Entry
   next_entry table = entry_from table (told_by b table).next 0 (count b)
+
+  -- an entry and those after it, where there is one
+  abbrev pub and_after : Option Entry → (Entry → List Entry) → List Entry
+  and_after (Some e) after = e ∷ after e
+  and_after None after = []
 
   -- The entries from the table on, at most so many.
   unfoldable pub entries_after : ℕ → List ℕ → List Entry
   entries_after zero table = []
-  entries_after (suc m) table =
-      cond (eqb (next_entry table).outcome 0) []
-      (next_entry table ∷ entries_after m (set table (next_entry table).leaf (next_entry table).outcome))
+  entries_after (suc m) table = and_after (next_entry table) (λ e. entries_after m (set table e.leaf e.outcome))
 
 -- Record bytes with the entry e at the place of entry i.
 abbrev pub with_entry : List ℕ → ℕ → Entry → List ℕ

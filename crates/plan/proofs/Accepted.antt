@@ -1,21 +1,19 @@
 -- What the reader's answer says of an accepted file: where its four bodies lie, one after the other, and that each passed its checks.
-use mathlib.Core.Path.{◌≡◌, refl, subst}
+use mathlib.Core.Path.{◌≡◌, refl}
 use mathlib.Core.Bool.{Bool, true, false, cond}
 use mathlib.Core.List.{List}
 use Prim.Native.Nat.{ℕ, ◌+◌, ◌*◌, ◌≤◌}
 use native.Mathlib.Omega.{arith}
+use Rattle.std.specs.Prelude.{Ok, Err}
 use lib.Dec.{eqb}
 use lib.ListN.{length}
 use borrow.Author.Tests.{eqb-true}
-use Rattle.blocks.specs.declared.Part.{Part}
-use Rattle.plan.specs.Reading.{end_of, block_at, on_block, with_rule, with_nodes, with_pairs, with_types, read_within}
-use Rattle.plan.specs.declared.Block.{Block}
-use Rattle.plan.specs.declared.Block.TheVariants as block
+use Rattle.plan.specs.Reading.{end_of, block_at, with_rule, with_nodes, with_pairs, with_types, read_within}
+use Rattle.plan.specs.declared.Fault.TheVariants.{Cut}
 use Rattle.plan.specs.declared.Layout.{Layout}
-use Rattle.plan.specs.declared.Reading.{Reading}
-use Rattle.plan.specs.declared.Reading.TheVariants.{Accepted, Refused}
+use Rattle.plan.proofs.Checks.{err_no_ok}
 use Rattle.plan.proofs.Lengths.{at_most, sized_bytes, sized_pairs, sized_nodes}
-use Rattle.plan.proofs.Lying.{Lying, lying}
+use Rattle.plan.proofs.Lying.{Lying, lying, passed, same_value}
 
 pub record Laid (action_limit pair_limit : ℕ) (s : List ℕ) (l : Layout) : Type 0 where
   pub types : Lying s 0 1 action_limit 0 l.types
@@ -24,28 +22,17 @@ pub record Laid (action_limit pair_limit : ℕ) (s : List ℕ) (l : Layout) : Ty
   pub rule : Lying s (end_of l.nodes) 4 127 l.types.len l.rule
   pub end : end_of l.rule ≡ length s
 
-refused_no_layout : {A : Type 0} (n : ℕ) (l : Layout) → Refused n ≡ Accepted l → A
-refused_no_layout n l e = let z : ◌≡◌ {A = ℕ} 0 1 = cc in absurd (omega arith)
-
-same_layout : (k l : Layout) → Accepted k ≡ Accepted l → k ≡ l
-same_layout k l e = cc
-
--- one block of an accepted file
-found : (b : Block) (next : Part → Reading) (l : Layout) → on_block b next ≡ Accepted l → (p : Part) × (b ≡ block.Lies p) × (next p ≡ Accepted l)
-found (block.Lies p) next l h = (p, refl, h)
-found (block.Refused n) next l h = refused_no_layout n l h
-
-ended : (t : Bool) (k l : Layout) → cond t (Accepted k) (Refused 1) ≡ Accepted l → (t ≡ true) × (k ≡ l)
-ended true k l h = (refl, same_layout k l h)
-ended false k l h = refused_no_layout 1 l h
+ended : (t : Bool) (k l : Layout) → cond t (Ok k) (Err Cut) ≡ Ok l → (t ≡ true) × (k ≡ l)
+ended true k l h = (refl, same_value k l h)
+ended false k l h = err_no_ok Cut l h
 
 module _ (action_limit pair_limit : ℕ) (s : List ℕ) (l : Layout) where
-  pub accepted_laid : read_within action_limit pair_limit s ≡ Accepted l → Laid action_limit pair_limit s l
+  pub accepted_laid : read_within action_limit pair_limit s ≡ Ok l → Laid action_limit pair_limit s l
   accepted_laid h =
-      let (t, ht, h1) = found (block_at s 0 1 action_limit 0) (with_types pair_limit s) l h in
-      let (p, hp, h2) = found (block_at s (end_of t) 2 pair_limit t.len) (with_pairs s t) l h1 in
-      let (n, hn, h3) = found (block_at s (end_of p) 3 63 t.len) (with_nodes s t p) l h2 in
-      let (r, hr, h4) = found (block_at s (end_of n) 4 127 t.len) (with_rule s t p n) l h3 in
+      let (t, ht, h1) = passed (block_at s 0 1 action_limit 0) (with_types pair_limit s) l h in
+      let (p, hp, h2) = passed (block_at s (end_of t) 2 pair_limit t.len) (with_pairs s t) l h1 in
+      let (n, hn, h3) = passed (block_at s (end_of p) 3 63 t.len) (with_nodes s t p) l h2 in
+      let (r, hr, h4) = passed (block_at s (end_of n) 4 127 t.len) (with_rule s t p n) l h3 in
       let k : Layout = record { types = t; pairs = p; nodes = n; rule = r } in
       let (e, same) = ended (eqb (end_of r) (length s)) k l h4 in
       let bodies : Laid action_limit pair_limit s k = record {
@@ -53,9 +40,9 @@ module _ (action_limit pair_limit : ℕ) (s : List ℕ) (l : Layout) where
         pairs = lying s (end_of t) 2 pair_limit t.len p hp;
         nodes = lying s (end_of p) 3 63 t.len n hn;
         rule = lying s (end_of n) 4 127 t.len r hr;
-        end = eqb-true _ _ e;
+        end = eqb-true (end_of r) (length s) e;
       } in
-      subst (Laid action_limit pair_limit s) same bodies
+      rw same at bodies
 
   -- so many bytes at the most
   pub most_bytes : Laid action_limit pair_limit s l → length s ≤ 332 + action_limit + 2 * pair_limit

@@ -1,6 +1,7 @@
 -- Demand 1 for plan files, put together from its parts.
 use mathlib.Core.Path.{◌≡◌}
 use mathlib.Core.List.{List}
+use Rattle.std.specs.Prelude.{Ok}
 use Prim.Native.Nat.{ℕ}
 use native.Mathlib.Omega.{arith}
 use Rattle.process.specs.Depth.{most_undos}
@@ -9,7 +10,6 @@ use Rattle.plan.specs.Reading.{bytes_of, read_of}
 use Rattle.plan.specs.Demand1.{InARow, Demand1}
 use Rattle.plan.specs.PlanFile.{most_actions, most_pairs, Runnable}
 use Rattle.plan.specs.declared.Layout.{Layout}
-use Rattle.plan.specs.declared.Reading.TheVariants.{Accepted}
 use Rattle.plan.proofs.Lengths.{at_most}
 use Rattle.plan.proofs.Accepted.{Laid, accepted_laid, most_bytes}
 use Rattle.plan.proofs.Exactly.{accepted_exactly, refused_exactly, accepted_holds}
@@ -18,14 +18,14 @@ use Rattle.plan.proofs.InBlocks.{in_blocks}
 use Rattle.plan.proofs.Tree.{levels_say, drawn}
 use Rattle.plan.proofs.Largest.{largest, largest_file, largest_long}
 
-laid : (s : List ℕ) (l : Layout) → read_of s ≡ Accepted l → Laid most_actions most_pairs s l
+laid : (s : List ℕ) (l : Layout) → read_of s ≡ Ok l → Laid most_actions most_pairs s l
 laid s l h = accepted_laid most_actions most_pairs s l h
 
 in_a_row : (s : List ℕ) (l : Layout) → Laid most_actions most_pairs s l → InARow s l
 in_a_row s l b = record { types = b.types.start; pairs = b.pairs.start; nodes = b.nodes.start; rule = b.rule.start; end = b.end }
 
 -- what running an accepted plan rests on
-pub runnable : (s : List ℕ) (l : Layout) → read_of s ≡ Accepted l → Runnable (bytes_of s l.types) (bytes_of s l.nodes)
+pub runnable : (s : List ℕ) (l : Layout) → read_of s ≡ Ok l → Runnable (bytes_of s l.types) (bytes_of s l.nodes)
 runnable s l h =
     let b = accepted_holds most_actions most_pairs (omega arith) s l h in
     record {

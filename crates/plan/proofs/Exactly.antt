@@ -6,6 +6,8 @@ use mathlib.Core.List.{List, [], ◌++◌, append-nil}
 use mathlib.Core.Logic.{◌↔◌}
 use Prim.Native.Nat.{ℕ, ◌+◌, ◌≤◌}
 use native.Mathlib.Omega.{arith}
+use Rattle.std.specs.Prelude.{Result, Ok, Err}
+use Rattle.std.proofs.Math.Option.{some, none-ne-some, some-injective}
 use lib.ListN.{length, drop}
 use lib.Seq.{drop-length}
 use lib.Dec.{eqb}
@@ -15,12 +17,13 @@ use Rattle.blocks.specs.declared.Part.{Part}
 use Rattle.plan.specs.PlanFile.{Bytes, TypesBody, PairsBody, NodesBody, Bodies, PlanFile}
 use Rattle.plan.specs.Refusals.{Broken}
 use Rattle.plan.specs.Demand1.{Holds}
-use Rattle.plan.specs.Reading.{bytes_of, end_of, with_rule, with_nodes, with_pairs, with_types, read_within}
+use Rattle.plan.specs.Fault.{number}
+use Rattle.plan.specs.Reading.{bytes_of, end_of, with_rule, with_nodes, with_pairs, with_types, read_within, number_of}
+use Rattle.plan.specs.declared.Fault.{Fault}
+use Rattle.plan.specs.declared.Fault.TheVariants.{Cut}
 use Rattle.plan.specs.declared.Layout.{Layout}
-use Rattle.plan.specs.declared.Reading.{Reading}
-use Rattle.plan.specs.declared.Reading.TheVariants.{Accepted, Refused}
 use Rattle.plan.proofs.Lengths.{at_most}
-use Rattle.plan.proofs.Checks.{choose, types_checks, pairs_checks, nodes_checks, rule_checks}
+use Rattle.plan.proofs.Checks.{IsRefused, choose, types_checks, pairs_checks, nodes_checks, rule_checks}
 use Rattle.plan.proofs.Accepted.{accepted_laid}
 use Rattle.plan.proofs.Blocks.{body_length_lem, place, after_written, block_long}
 use Rattle.plan.proofs.Steps.{in_order, past, stopped, by_block}
@@ -38,15 +41,20 @@ nodes_part T P N = place (end_of (pairs_part T P)) N
 abbrev rule_part : List ℕ → List ℕ → List ℕ → List ℕ → Part
 rule_part T P N R = place (end_of (nodes_part T P N)) R
 
+-- an answer that has a number is a refusal
+refused_number : (r : Result Layout Fault) (n : ℕ) → number_of r ≡ some n → IsRefused r n
+refused_number (Ok l) n h = absurd (none-ne-some n h)
+refused_number (Err f) n h = (f, refl, some-injective (number f) n h)
+
 module _ (action_limit pair_limit : ℕ) (limit : action_limit ≤ 128) (s : List ℕ) where
-  abbrev answer : Reading
+  abbrev answer : Result Layout Fault
   answer = read_within action_limit pair_limit s
 
   few : (T : List ℕ) → TypesBody action_limit T → length T ≤ 128
   few T t = omega (arith, at_most t.size)
 
   -- the bodies of an accepted file are in order
-  pub accepted_holds : (l : Layout) → answer ≡ Accepted l → Holds action_limit pair_limit s l
+  pub accepted_holds : (l : Layout) → answer ≡ Ok l → Holds action_limit pair_limit s l
   accepted_holds l h =
       let b = accepted_laid action_limit pair_limit s l h in
       let t = in_order (types_checks action_limit) s 0 l.types b.types in
@@ -104,7 +112,7 @@ module _ (action_limit pair_limit : ℕ) (limit : action_limit ≤ 128) (s : Lis
       let N = f.nodes in
       record { types = types_part T; pairs = pairs_part T P; nodes = nodes_part T P N; rule = rule_part T P N f.rule }
 
-  file_accepted : (f : PlanFile action_limit pair_limit s) → answer ≡ Accepted (layout f)
+  file_accepted : (f : PlanFile action_limit pair_limit s) → answer ≡ Ok (layout f)
   file_accepted f =
       let T = f.types in
       let P = f.pairs in
@@ -113,25 +121,28 @@ module _ (action_limit pair_limit : ℕ) (limit : action_limit ≤ 128) (s : Lis
       let e : s ≡ block 1 T ++ (block 2 P ++ (block 3 N ++ (block 4 R ++ []))) = f.blocks ∙ rw (append-nil R) in
       past_rule T P N R [] e f.hold ∙ rw (eq-eqb (end_of (rule_part T P N R)) (length s) (omega (arith, file_long T P N R [] e f.hold)))
 
-  broken_refused : (n : ℕ) → Broken action_limit pair_limit s n → answer ≡ Refused n
+  -- where the answer goes on with another, that is refused with it
+  onward : {r : Result Layout Fault} {n : ℕ} → answer ≡ r → IsRefused r n → IsRefused answer n
+  onward e (f, found, number) = (f, e ∙ found, number)
+
+  broken_refused : (n : ℕ) → Broken action_limit pair_limit s n → IsRefused answer n
   broken_refused n (Broken.in_types f) = stopped (types_checks action_limit) s 0 s n refl f (with_types pair_limit s)
   broken_refused n (Broken.in_pairs T rest e t f) =
-      past_types T rest e t
-      ∙ stopped (pairs_checks pair_limit (length T)) s (end_of (types_part T)) rest n (after_types T rest e t) f (with_pairs s (types_part T))
+      onward (past_types T rest e t)
+      (stopped (pairs_checks pair_limit (length T)) s (end_of (types_part T)) rest n (after_types T rest e t) f (with_pairs s (types_part T)))
   broken_refused n (Broken.in_nodes T P rest e t p f) =
-      past_pairs T P rest e t p
-      ∙ stopped (nodes_checks (length T)) s (end_of (pairs_part T P)) rest n (after_pairs T P rest e t p) f (with_nodes s (types_part T) (pairs_part T P))
+      onward (past_pairs T P rest e t p)
+      (stopped (nodes_checks (length T)) s (end_of (pairs_part T P)) rest n (after_pairs T P rest e t p) f (with_nodes s (types_part T) (pairs_part T P)))
   broken_refused k (Broken.in_rule T P N rest e t p n f) =
-      past_nodes T P N rest e t p n
-      ∙ stopped (rule_checks (length T) (few T t)) s (end_of (nodes_part T P N)) rest k (after_nodes T P N rest e t p n) f (with_rule s (types_part T) (pairs_part T P) (nodes_part T P N))
-  broken_refused _ (Broken.bytes_after T P N R rest e b some) =
-      past_rule T P N R rest e b
-      ∙ rw (ne_eqb (end_of (rule_part T P N R)) (length s) (λ z. omega (arith, file_long T P N R rest e b)))
+      onward (past_nodes T P N rest e t p n)
+      (stopped (rule_checks (length T) (few T t)) s (end_of (nodes_part T P N)) rest k (after_nodes T P N rest e t p n) f (with_rule s (types_part T) (pairs_part T P) (nodes_part T P N)))
+  broken_refused _ (Broken.bytes_after T P N R rest e b more) =
+      (Cut, past_rule T P N R rest e b ∙ rw (ne_eqb (end_of (rule_part T P N R)) (length s) (λ z. omega (arith, file_long T P N R rest e b))), refl)
 
   -- whatever the answer is, it is right
-  abbrev Right : Reading → Type 0
-  Right (Accepted l) = PlanFile action_limit pair_limit s
-  Right (Refused n) = Broken action_limit pair_limit s n
+  abbrev Right : Result Layout Fault → Type 0
+  Right (Ok l) = PlanFile action_limit pair_limit s
+  Right (Err f) = Broken action_limit pair_limit s (number f)
 
   right_at_end : (T P N R : List ℕ) → let after = drop (end_of (rule_part T P N R)) s in s ≡ block 1 T ++ (block 2 P ++ (block 3 N ++ (block 4 R ++ after)))
       → Bodies action_limit pair_limit T P N R → Right (with_rule s (types_part T) (pairs_part T P) (nodes_part T P N) (rule_part T P N R))
@@ -167,9 +178,12 @@ module _ (action_limit pair_limit : ℕ) (limit : action_limit ≤ 128) (s : Lis
         (λ k f. Broken.in_types f)
 
     -- THE LAWS: accepted, exactly where it is a plan file
-    pub accepted_exactly : ((l : Layout) × (answer ≡ Accepted l)) ↔ PlanFile action_limit pair_limit s
+    pub accepted_exactly : ((l : Layout) × (answer ≡ Ok l)) ↔ PlanFile action_limit pair_limit s
     accepted_exactly = (λ (l, h). rw h at right, λ f. (layout f, file_accepted f))
 
     -- refused by a number, exactly where something is wrong that has the number
-    pub refused_exactly : (n : ℕ) → (answer ≡ Refused n) ↔ Broken action_limit pair_limit s n
-    refused_exactly n = (λ h. rw h at right, broken_refused n)
+    pub refused_exactly : (n : ℕ) → (number_of answer ≡ some n) ↔ Broken action_limit pair_limit s n
+    refused_exactly n = (
+      λ h. let (f, e, k) = refused_number answer n h in rw k at (rw e at right),
+      λ h. let (f, e, k) = broken_refused n h in rw (e, k),
+    )

@@ -1,6 +1,7 @@
 -- An accepted file is written as the blocks of the bodies that its layout names: each block from where the one before it ends.
 use mathlib.Core.Path.{◌≡◌, ap, ◌∙◌}
 use mathlib.Core.List.{List, [], ◌++◌, append-nil}
+use Rattle.std.specs.Prelude.{Ok}
 use Prim.Native.Nat.{ℕ}
 use lib.ListN.{drop}
 use lib.Seq.{drop-length}
@@ -9,11 +10,10 @@ use Rattle.plan.specs.Demand1.{InBlocks}
 use Rattle.plan.specs.PlanFile.{most_actions, most_pairs, Bytes}
 use Rattle.plan.specs.Reading.{bytes_of, end_of, read_of}
 use Rattle.plan.specs.declared.Layout.{Layout}
-use Rattle.plan.specs.declared.Reading.TheVariants.{Accepted}
 use Rattle.plan.proofs.Accepted.{accepted_laid}
 use Rattle.plan.proofs.Blocks.{block_here}
 
-pub in_blocks : (s : List ℕ) → Bytes s → (l : Layout) → read_of s ≡ Accepted l → InBlocks s l
+pub in_blocks : (s : List ℕ) → Bytes s → (l : Layout) → read_of s ≡ Ok l → InBlocks s l
 in_blocks s bytes l h =
     let b = accepted_laid most_actions most_pairs s l h in
     let t = b.types in

@@ -12,3 +12,4 @@ pub mod Largest
 pub mod Demand1
 pub mod Inside
 pub mod PlanTraces
+pub mod Runnable

@@ -6,6 +6,7 @@ use mathlib.Core.List.{List}
 use mathlib.Core.Logic.{◌⊎◌, inl, inr}
 use Prim.Native.Nat.{ℕ, ◌+◌, ◌*◌, ◌≤◌, ◌<◌}
 use native.Mathlib.Omega.{arith}
+use Rattle.std.specs.Prelude.{Option, Some, None, Result, Ok, Err}
 use lib.Dec.{eqb}
 use lib.ListN.{length, take, drop, length-take, length-drop}
 use lib.Seq.{get_or-take, get_or-drop, ext_get_or, length-take-le}
@@ -13,12 +14,11 @@ use borrow.Author.Tests.{le-leb, ne_eqb}
 use Rattle.blocks.specs.Block.{heading_at}
 use Rattle.blocks.specs.declared.Part.{Part}
 use Rattle.blocks.specs.declared.Heading.{Heading}
-use Rattle.blocks.specs.declared.Heading.TheVariants.{Whole, Cut}
 use Rattle.blocks.proofs.Bounded.{decide}
-use Rattle.plan.specs.Reading.{length_ok, body_at, on_heading, block_at, on_block, end_of, with_rule, with_nodes, with_pairs, with_types, read_within}
-use Rattle.plan.specs.declared.Block.{Block}
-use Rattle.plan.specs.declared.Block.TheVariants.{Lies, Refused}
-use Rattle.plan.specs.declared.Reading.{Reading}
+use Rattle.plan.specs.Reading.{length_ok, body_at, on_heading, block_at, on_ok, end_of, with_rule, with_nodes, with_pairs, with_types, read_within}
+use Rattle.plan.specs.declared.Fault.{Fault}
+use Rattle.plan.specs.declared.Fault.TheVariants.{Kind}
+use Rattle.plan.specs.declared.Layout.{Layout}
 use Rattle.plan.proofs.Lengths.{at_most, sized_bytes, sized_pairs, sized_nodes}
 use Rattle.plan.proofs.Lying.{lying}
 
@@ -30,7 +30,7 @@ module _ (s : List ℕ) (n : ℕ) (long : n ≤ length s) where
   same_part : (k m : ℕ) → k + m ≤ n → take m (drop k (take n s)) ≡ take m (drop k s)
   same_part k m h =
       ext_get_or 0 (take m (drop k (take n s))) (take m (drop k s))
-      (simp (length-take, length-drop, beginning_long) (omega arith))
+      (simp (length-take, length-drop) (omega arith))
       (λ i l.
       let j : i < m = omega (arith, l, length-take m (drop k (take n s))) in
       rw (get_or-take m (drop k (take n s)) i 0 j, get_or-take m (drop k s) i 0 j, get_or-drop k (take n s) i 0, get_or-drop k s i 0) (get_or-take n s (k + i) 0 (omega arith)))
@@ -52,14 +52,14 @@ module _ (s : List ℕ) (n : ℕ) (long : n ≤ length s) where
     pub same_block : block_at (take n s) at kind most actions ≡ block_at s at kind most actions
     same_block = rw (same_heading at (omega arith)) (go (heading_at s at))
       where
-        go : (h : Heading) → on_heading h (λ k m. cond (eqb k kind) (body_at (take n s) at kind most actions m) (Refused 2)) ≡ on_heading h (λ k m. cond (eqb k kind) (body_at s at kind most actions m) (Refused 2))
-        go (Whole k m) = rw (same_body m)
-        go Cut = refl
+        go : (h : Option Heading) → on_heading h (λ k m. cond (eqb k kind) (body_at (take n s) at kind most actions m) (Err Kind)) ≡ on_heading h (λ k m. cond (eqb k kind) (body_at s at kind most actions m) (Err Kind))
+        go (Some h) = rw (same_body h.len)
+        go None = refl
 
 -- what follows a block may use where its body lies
-next_block : (b : Block) (f g : Part → Reading) → ((p : Part) → b ≡ Lies p → f p ≡ g p) → on_block b f ≡ on_block b g
-next_block (Lies p) f g h = h p refl
-next_block (Refused k) f g h = refl
+next_block : (b : Result Part Fault) (f g : Part → Result Layout Fault) → ((p : Part) → b ≡ Ok p → f p ≡ g p) → on_ok b f ≡ on_ok b g
+next_block (Ok p) f g h = h p refl
+next_block (Err k) f g h = refl
 
 module _ (action_limit pair_limit : ℕ) (s : List ℕ) (n : ℕ) (long : n ≤ length s) where
   -- from each block on, where what may still come lies in the beginning
@@ -68,7 +68,7 @@ module _ (action_limit pair_limit : ℕ) (s : List ℕ) (n : ℕ) (long : n ≤ 
       rw (same_block s n long (end_of o) 4 127 t.len 127 (λ m e. omega (arith, at_most ((sized_bytes 127 m).0 e))) (omega arith))
       (next_block (block_at s (end_of o) 4 127 t.len) (with_rule (take n s) t p o) (with_rule s t p o) ends)
     where
-      ends : (r : Part) → block_at s (end_of o) 4 127 t.len ≡ Lies r → with_rule (take n s) t p o r ≡ with_rule s t p o r
+      ends : (r : Part) → block_at s (end_of o) 4 127 t.len ≡ Ok r → with_rule (take n s) t p o r ≡ with_rule s t p o r
       ends r e =
           let l = lying s (end_of o) 4 127 t.len r e in
           let k = at_most ((sized_bytes 127 r.len).0 l.permitted) in

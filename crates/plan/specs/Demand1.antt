@@ -1,6 +1,7 @@
 -- Demand 1 for plan files: what the reader's answer says of every list of bytes. `demand1` in proofs/ proves it, and the contract of
 -- `read` equates its result with `read_of`.
-use Rattle.std.specs.Prelude.{◌≡◌, List, ◌++◌, ◌↔◌, ℕ, ◌+◌, ◌-◌, ◌*◌, ◌≤◌, ◌<◌, length, take}
+use Rattle.std.specs.Prelude.{◌≡◌, List, ◌++◌, ◌↔◌, ℕ, ◌+◌, ◌-◌, ◌*◌, ◌≤◌, ◌<◌, length, take, Ok}
+use Rattle.std.proofs.Math.Option.{some}
 use Rattle.process.specs.Leaves.{AsWritten, HasLeaf, Distinct}
 use Rattle.process.specs.Depth.{Flat, Shallow}
 use Rattle.blocks.specs.Block.{block}
@@ -8,10 +9,9 @@ use Rattle.bodies.specs.Pairs.{Pairs, pair_count, first}
 use Rattle.nodes.specs.Nodes.{count, form, FormRules, EachNamedOnce, Under, Nested, NotTooDeep}
 use Rattle.plan.specs.PlanFile.{most_actions, most_pairs, most_bytes, Bytes, Bodies, PlanFile}
 use Rattle.plan.specs.Refusals.{Broken}
-use Rattle.plan.specs.Reading.{bytes_of, end_of, read_within, read_of}
+use Rattle.plan.specs.Reading.{bytes_of, end_of, read_within, read_of, number_of}
 use Rattle.plan.specs.Tree.{process_of}
 use Rattle.plan.specs.declared.Layout.{Layout}
-use Rattle.plan.specs.declared.Reading.TheVariants.{Accepted, Refused}
 
 -- where the four bodies of an accepted file lie: one after the other, each after its heading, up to the file's end
 pub record InARow (s : List ℕ) (l : Layout) : Type 0 where
@@ -40,14 +40,14 @@ pub record Drawn (types nodes : List ℕ) : Type 0 where
 
 pub record Demand1 : Type 0 where
   -- a file is accepted exactly where it is a plan file
-  pub accepts : (s : List ℕ) → Bytes s → ((l : Layout) × (read_of s ≡ Accepted l)) ↔ PlanFile most_actions most_pairs s
+  pub accepts : (s : List ℕ) → Bytes s → ((l : Layout) × (read_of s ≡ Ok l)) ↔ PlanFile most_actions most_pairs s
   -- and refused by a number exactly where that is document 01's number for what is wrong with it
-  pub refuses : (s : List ℕ) → Bytes s → (n : ℕ) → (read_of s ≡ Refused n) ↔ Broken most_actions most_pairs s n
+  pub refuses : (s : List ℕ) → Bytes s → (n : ℕ) → (number_of (read_of s) ≡ some n) ↔ Broken most_actions most_pairs s n
   -- and so it is under other limits for actions and pairs, which another call may read with
   pub accepts_within : (action_limit pair_limit : ℕ) → action_limit ≤ 128 → (s : List ℕ) → Bytes s
-      → ((l : Layout) × (read_within action_limit pair_limit s ≡ Accepted l)) ↔ PlanFile action_limit pair_limit s
+      → ((l : Layout) × (read_within action_limit pair_limit s ≡ Ok l)) ↔ PlanFile action_limit pair_limit s
   pub refuses_within : (action_limit pair_limit : ℕ) → action_limit ≤ 128 → (s : List ℕ) → Bytes s → (n : ℕ)
-      → (read_within action_limit pair_limit s ≡ Refused n) ↔ Broken action_limit pair_limit s n
+      → (number_of (read_within action_limit pair_limit s) ≡ some n) ↔ Broken action_limit pair_limit s n
   -- of pairs that keep the pair rule no four have one first
   pub no_fourth : (actions : ℕ) (pairs : List ℕ) → Pairs actions pairs → (h i j k : ℕ) → h < i → i < j → j < k → k < pair_count pairs
       → first pairs h ≡ first pairs k → first pairs i ≡ first pairs k → first pairs j ≡ first pairs k → ⊥
@@ -61,13 +61,13 @@ pub record Demand1 : Type 0 where
   pub flat : (actions : ℕ) (types nodes : List ℕ) → FormRules actions nodes → EachNamedOnce nodes → 1 ≤ count nodes
       → ((i : ℕ) → Nested nodes 2 i → ⊥) ↔ Flat (process_of types nodes)
   -- the bodies of an accepted file are those of its blocks, and hold what document 01 permits
-  pub blocks : (s : List ℕ) → Bytes s → (l : Layout) → read_of s ≡ Accepted l → InBlocks s l
-  pub holds : (s : List ℕ) (l : Layout) → read_of s ≡ Accepted l → Holds most_actions most_pairs s l
+  pub blocks : (s : List ℕ) → Bytes s → (l : Layout) → read_of s ≡ Ok l → InBlocks s l
+  pub holds : (s : List ℕ) (l : Layout) → read_of s ≡ Ok l → Holds most_actions most_pairs s l
   -- an accepted file is at most as long as the largest, some file is as long, and the bodies lie in a row
-  pub most : (s : List ℕ) (l : Layout) → read_of s ≡ Accepted l → length s ≤ most_bytes
+  pub most : (s : List ℕ) (l : Layout) → read_of s ≡ Ok l → length s ≤ most_bytes
   pub largest : (s : List ℕ) × PlanFile most_actions most_pairs s × (length s ≡ most_bytes)
-  pub row : (s : List ℕ) (l : Layout) → read_of s ≡ Accepted l → InARow s l
+  pub row : (s : List ℕ) (l : Layout) → read_of s ≡ Ok l → InARow s l
   -- its nodes draw one tree
-  pub tree : (s : List ℕ) (l : Layout) → read_of s ≡ Accepted l → Drawn (bytes_of s l.types) (bytes_of s l.nodes)
+  pub tree : (s : List ℕ) (l : Layout) → read_of s ≡ Ok l → Drawn (bytes_of s l.types) (bytes_of s l.nodes)
   -- of a longer input the beginning decides
   pub beginning : (s : List ℕ) (n : ℕ) → most_bytes < n → n ≤ length s → read_of (take n s) ≡ read_of s

@@ -1,6 +1,9 @@
+pub mod Fault
+pub mod Kind
 pub mod Reading
 pub mod PlanFile
 pub mod Refusals
 pub mod Tree
 pub mod Demand1
 pub mod Traces
+pub mod Process

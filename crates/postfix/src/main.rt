@@ -1,33 +1,25 @@
 // Turns a rule typed on standard input into postfix order, and writes its bytes on a line, or `refused` and document 02's number for why.
 #![tactic(auto)]
 
-fn answer(rt: &HostRuntime, input: &[u8]) {
-    let said = reply::reply_to(input);
-    let line = said.line;
-    if said.too_long {
-        // Where standard error takes nothing there is nobody left to tell.
-        match output::write(&rt.stderr(), line) {
-            Ok(()) => {}
-            Err(_) => {}
-        }
-        return;
-    }
-    if let Err(why) = output::write(rt, line) {
-        output::fail(&rt.stderr(), b"standard output", why);
-    }
-}
+use output::Failed;
 
-fn run(rt: &HostRuntime, held: &mut [u8]) {
-    let got = input::fill(&mut rt.stdin(), held);
-    let n = got.filled.count;
-    if let Some(why) = got.why {
-        output::fail(&rt.stderr(), b"standard input", why);
-        return;
+fn run(rt: &HostRuntime, held: &mut [u8]) -> Result<(), Failed> {
+    let n = input::fill(&mut rt.stdin(), held).map_err(|e| output::fail(
+        &rt.stderr(),
+        b"standard input",
+        e.why,
+    ))?;
+    match reply::reply_to(&held[..n]) {
+        Ok(line) => output::show(rt, &rt.stderr(), &line),
+        Err(told) => {
+            // Where standard error takes nothing there is nobody left to tell.
+            let _ = output::write(&rt.stderr(), &told);
+            Err(Failed)
+        }
     }
-    answer(rt, &held[..n]);
 }
 
 fn main(rt: HostRuntime) {
     let mut held = reply::room();
-    run(&rt, &mut held);
+    let _ = run(&rt, &mut held);
 }

@@ -10,9 +10,11 @@ use lib.Pow.{pow-lt}
 use lib.Bits.{bit_or, bit_and, or_lt}
 use Rattle.family.specs.Family.{bit_at, Having}
 use Rattle.product.specs.Steps.{FromBit, Spread}
-use Rattle.family.proofs.Numbers.{three_equal, every, at_number, below_or_above}
+use Rattle.std.proofs.lemmas.Bool.{cases_lt}
+use Rattle.family.proofs.Numbers.{three_equal, every, at_number}
 use Rattle.family.proofs.Patterns.{place_bit}
-use Rattle.family.proofs.Bits.{bit_or_lem, bit_and_lem, bit_small, or_back}
+use Rattle.std.proofs.lemmas.Nat.Bits.{bit_at_or, bit_at_and, bit_at-lt}
+use Rattle.family.proofs.Bits.{or_back}
 use Rattle.product.proofs.Shifts.{shifted_in, shifted_clear}
 
 abbrev masked : ℕ → ℕ → ℕ
@@ -46,14 +48,14 @@ module _ (w k mask : ℕ) (lk : k < 6) (pattern : Having k 0 mask) where
   action_added = bit_and (bit_or w shifted) mask
 
   added_bit : (j : ℕ) → j < 64 → bit_at action_added j ≡ min (max (bit_at w j) (bit_at shifted j)) (masked k j)
-  added_bit j l = bit_and_lem (bit_or w shifted) mask j ∙ ap₂ min (bit_or_lem w shifted j) (place_bit pattern j l)
+  added_bit j l = bit_at_and (bit_or w shifted) mask j ∙ ap₂ min (bit_at_or w shifted j) (place_bit pattern j l)
 
   added_sound : (j : ℕ) → j < 64 → bit_at action_added j ≡ 1 → FromBit w (2 ^ k) j
   added_sound j lj on = elim (place k j lk lj) [
     | lacks m u v ↦ absurd (omega (arith, added_bit j lj))
-    | has m same down ↦ elim (or_back w shifted j (omega (arith, added_bit j lj, bit_or_lem w shifted j, bit_small (bit_or w shifted) j))) [
+    | has m same down ↦ elim (or_back w shifted j (omega (arith, added_bit j lj, bit_at_or w shifted j, bit_at-lt (bit_or w shifted) j))) [
       | inl here ↦ record { bit = j; small = lj; on = here; is = same }
-      | inr moved ↦ elim (below_or_above j (2 ^ k)) [
+      | inr moved ↦ elim (cases_lt j (2 ^ k)) [
         | inl l ↦ absurd (omega (arith, shifted_clear w (2 ^ k) j l lj))
         | inr l ↦ let e : j - 2 ^ k + 2 ^ k ≡ j = omega arith in
             record { bit = j - 2 ^ k; small = omega arith; on = sym (shifted_in w (2 ^ k) (j - 2 ^ k) (rw e lj)) ∙ ap (bit_at shifted) e ∙ moved; is = down }
@@ -63,9 +65,9 @@ module _ (w k mask : ℕ) (lk : k < 6) (pattern : Having k 0 mask) where
 
   added_complete : (i : ℕ) → i < 64 → bit_at w i ≡ 1 → bit_at action_added (bit_or (2 ^ k) i) ≡ 1
   added_complete i li on = elim (place k i lk li) [
-    | has m same down ↦ rw same (omega (arith, added_bit i li, bit_small shifted i))
+    | has m same down ↦ rw same (omega (arith, added_bit i li, bit_at-lt shifted i))
     | lacks m moved v ↦ let l : i + 2 ^ k < 64 = rw moved at (or_lt 6 (2 ^ k) i (pow-lt lk) li) in
-        rw moved (omega (arith, added_bit (i + 2 ^ k) l, shifted_in w (2 ^ k) i l, bit_small w (i + 2 ^ k)))
+        rw moved (omega (arith, added_bit (i + 2 ^ k) l, shifted_in w (2 ^ k) i l, bit_at-lt w (i + 2 ^ k)))
   ]
 
   pub action_added_lem : Spread w (2 ^ k) action_added

@@ -11,8 +11,9 @@ use lib.ListN.{length, get_or, set, length-set}
 use Rattle.family.specs.Family.{bit_at, In, Empty, Single}
 use Rattle.product.specs.Product.{Union, Product}
 use Rattle.product.specs.Steps.{Spreads, Picked, FromWord, Grown}
-use Rattle.family.proofs.Numbers.{same_or_other}
-use Rattle.family.proofs.Bits.{no_bit, or_left, or_right, or_back}
+use Rattle.std.proofs.lemmas.Bool.{cases_eq}
+use Rattle.std.proofs.lemmas.Nat.Bits.{bit_at-zero}
+use Rattle.family.proofs.Bits.{or_left, or_right, or_back}
 use Rattle.family.proofs.Words.{in_word, low_small, halves, in_range, stored_back, stored_here, stored_other}
 
 -- a union by its word and its bit
@@ -38,7 +39,7 @@ module _ (a : List ℕ) (w i : ℕ) (r : List ℕ) where
       sound = g.sound;
       keeps = g.keeps;
       complete = below_more (λ k. (x y : ℕ) → x < 64 → bit_at (get_or a k 0) x ≡ 1 → y < 64 → bit_at w y ≡ 1 → In n (bit_or (k * 64 + x) (i * 64 + y))) h g.complete
-          (λ x y lx on. absurd (omega (arith, no_bit x, rw zero_word at on)));
+          (λ x y lx on. absurd (omega (arith, bit_at-zero x, rw zero_word at on)));
     }
 
     -- the words that word h of a picks from the table of w are joined to word h | i
@@ -53,7 +54,7 @@ module _ (a : List ℕ) (w i : ℕ) (r : List ℕ) where
       spot_in = rw g.long (or_lt 4 h i lh li)
 
       more_keeps : (t : ℕ) → In n t → In (set n spot more) t
-      more_keeps t on = elim (same_or_other (t / 64) spot) [
+      more_keeps t on = elim (cases_eq (t / 64) spot) [
         | inl e ↦ stored_here n spot more spot_in t e (or_left (get_or n spot 0) p (t % 64) (rw e at on))
         | inr d ↦ stored_other n spot more spot_in t d on
       ]
@@ -131,7 +132,7 @@ module _ (a b : List ℕ) where
     building_skip zero_word = record {
       sound = p.sound;
       complete = below_more (λ k. (s y : ℕ) → In a s → y < 64 → bit_at (get_or b k 0) y ≡ 1 → In r (bit_or s (k * 64 + y))) i p.complete
-          (λ s y on ly ony. absurd (omega (arith, no_bit y, rw zero_word at ony)));
+          (λ s y on ly ony. absurd (omega (arith, bit_at-zero y, rw zero_word at ony)));
     }
 
   pub built : (r : List ℕ) → length b ≡ 16 → Building a b 16 r → Product a b r

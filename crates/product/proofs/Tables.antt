@@ -14,8 +14,9 @@ use lib.Seq.{get_or-set_same, get_or-set_other}
 use borrow.Author.Count.{below_more}
 use Rattle.family.specs.Family.{bit_at}
 use Rattle.product.specs.Steps.{Spread, Spreads, Doubled, Picked}
-use Rattle.family.proofs.Numbers.{below_or_above}
-use Rattle.family.proofs.Bits.{no_bit, or_left, or_right, or_back, or_assoc}
+use Rattle.std.proofs.lemmas.Bool.{cases_lt}
+use Rattle.std.proofs.lemmas.Nat.Bits.{bit_at-zero}
+use Rattle.family.proofs.Bits.{or_left, or_right, or_back, or_assoc}
 
 -- the word itself
 pub spreads_first : (w : ℕ) (rest : List ℕ) → Spreads w 1 (w ∷ rest)
@@ -73,7 +74,7 @@ doubled s k n j r l d = record {
 }
 
 pub spreads_doubled : (w k : ℕ) (s r : List ℕ) → 2 ^ k ≤ 64 → Spreads w (2 ^ k) s → Doubled s k r → Spreads w (2 ^ (k + 1)) r
-spreads_doubled w k s r small old d x l = elim (below_or_above x (2 ^ k)) [
+spreads_doubled w k s r small old d x l = elim (cases_lt x (2 ^ k)) [
   | inl low ↦ rw (d.kept x low) (old x low)
   | inr high ↦
       let e : 2 ^ k + (x - 2 ^ k) ≡ x = omega arith in
@@ -85,7 +86,7 @@ spreads_doubled w k s r small old d x l = elim (below_or_above x (2 ^ k)) [
 -- the words picked
 module _ (u : ℕ) (table : List ℕ) where
   pub picked_none : Picked u table 0 0
-  picked_none = record { sound = λ j on. absurd (omega (arith, no_bit j)); complete = λ x l. absurd (omega arith) }
+  picked_none = record { sound = λ j on. absurd (omega (arith, bit_at-zero j)); complete = λ x l. absurd (omega arith) }
 
   module _ (x r : ℕ) (p : Picked u table x r) where
     pub picked_more : x < 64 → bit_at u x ≡ 1 → Picked u table (x + 1) (bit_or r (get_or table x 0))

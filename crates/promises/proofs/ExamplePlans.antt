@@ -6,6 +6,7 @@ use mathlib.Core.List.{List, [], ◌∷◌, ◌++◌}
 use mathlib.Core.Option.{none, some}
 use Prim.Native.Nat.{ℕ, zero, suc, ◌≤◌, ◌<◌}
 use native.Mathlib.Omega.{arith}
+use Rattle.std.specs.Prelude.{Ok}
 use lib.Dec.{ltb}
 use lib.ListN.{length, replicate, length-append}
 use borrow.Author.Tests.{ltb-true, lt-ltb}
@@ -21,7 +22,6 @@ use Rattle.bodies.specs.Rule.{action, not, or, rule_from}
 use Rattle.plan.specs.PlanFile.{most_actions, most_pairs, Bytes, PlanFile}
 use Rattle.plan.specs.Reading.{read_of}
 use Rattle.plan.specs.Reading as reader
-use Rattle.plan.specs.declared.Reading.TheVariants.{Accepted}
 use Rattle.meaning.specs.Meaning.{meaning}
 use Rattle.state.specs.State.{told_by, leaf_permits, may_come, replay, entries_from}
 use Rattle.state.specs.declared.Entry.{Entry}
@@ -100,7 +100,7 @@ plan_file t h k = record {
 }
 
 -- what is computed of it
-pub accepted : read_of file ≡ Accepted layout
+pub accepted : read_of file ≡ Ok layout
 unfolding every total fold_from rule_from
 accepted = refl
 
@@ -197,7 +197,7 @@ shows_failed = record {
 }
 
 -- the plan with the rule that no set breaks
-pub kept_accepted : read_of kept ≡ Accepted kept_layout
+pub kept_accepted : read_of kept ≡ Ok kept_layout
 unfolding every total fold_from rule_from
 kept_accepted = refl
 
@@ -214,7 +214,7 @@ unfolding fold_from
 all_keep run s c = rw (only_entry c) (kept_keeps s)
 
 -- the choice: its three runs
-pub choices_accepted : read_of choices ≡ Accepted choices_layout
+pub choices_accepted : read_of choices ≡ Ok choices_layout
 unfolding every total fold_from rule_from
 choices_accepted = refl
 

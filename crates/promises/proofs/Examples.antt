@@ -7,6 +7,7 @@ use mathlib.Core.Logic.{◌⊎◌, inl, inr}
 use mathlib.Core.Option.{Option, none, some}
 use Prim.Native.Nat.{ℕ, suc, ◌/◌, ◌%◌, ◌^◌, ◌≤◌, ◌<◌}
 use native.Mathlib.Omega.{arith}
+use Rattle.std.specs.Prelude.{Ok}
 use lib.ListN.{length, get_or, take, replicate}
 use Rattle.process.specs.Process.{Status, ok, fail, entry, Run}
 use Rattle.reorder.specs.Entries.{failures}
@@ -15,7 +16,6 @@ use Rattle.plan.specs.PlanFile.{Bytes, Items}
 use Rattle.plan.specs.Refusals.{in_types, cut_heading}
 use Rattle.plan.specs.Reading.{read_of}
 use Rattle.plan.specs.Reading as reader
-use Rattle.plan.specs.declared.Reading.TheVariants.{Accepted}
 use Rattle.state.specs.declared.Entry.{Entry}
 use Rattle.job.specs.Job.{no_job, fresh_job, start_of}
 use Rattle.job.specs.Numbers.{end_number}
@@ -26,12 +26,11 @@ use Rattle.job.specs.declared.Job.{Job}
 use Rattle.job.specs.Demand2.{Continues, EndsOrGoesOn, may_end, goes_on}
 use Rattle.job.specs.declared.Told.{Told}
 use Rattle.plainest.specs.Bytes.{record_bytes, here}
-use Rattle.judge.specs.Verdict.{work_size, record_size, says_consistent, set_given}
+use Rattle.judge.specs.Verdict.{Answer, work_size, record_size, says_consistent, set_given}
 use Rattle.judge.specs.Verdict as verdict
 use Rattle.judge.specs.Shown.{shown_entries, shown_run, PlainestOf}
 use Rattle.judge.specs.Judged.{Judged}
 use Rattle.judge.specs.Demand3.{PlanRule, Replays, Violation, Says}
-use Rattle.judge.specs.declared.Judgement.{Judgement}
 use Rattle.judge.specs.declared.Judgement.TheVariants.{Consistent, Violated}
 use Rattle.promises.specs.Refused.{Files, Judges, consistent, violated, Demand1}
 use Rattle.promises.specs.Runner.{Demand2}
@@ -131,7 +130,7 @@ from_entries d = record {
       (t.number, t.recorded ∙ entry_recorded _ s fresh_empty);
 }
 
-one_of_two : (v : Judgement) → Judges v → (v ≡ Consistent) ⊎ ((set : ℕ) × (v ≡ Violated set))
+one_of_two : (v : Answer) → Judges v → (v ≡ Ok Consistent) ⊎ ((set : ℕ) × (v ≡ Ok (Violated set)))
 one_of_two _ consistent = inl refl
 one_of_two _ (violated set) = inr (set, refl)
 
@@ -163,7 +162,7 @@ from_demand1 = record {
 }
 
 -- Demand 2
-from_starts : Demand2 → (t : ℕ) → read_of (plan_of t) ≡ Accepted layout → FromStarts t
+from_starts : Demand2 → (t : ℕ) → read_of (plan_of t) ≡ Ok layout → FromStarts t
 from_starts d t h =
     let x = d.starts (plan_of t) layout h in
     record { number = x.number; next = x.next ∙ (start_told t).0; end = x.end ∙ (start_told t).1; job = x.job; fresh = x.fresh }
@@ -239,7 +238,7 @@ is_false : (b : Bool) → (b ≡ true → ⊥) → b ≡ false
 is_false true n = absurd (n refl)
 is_false false n = refl
 
-module _ (d : Demand3) (work work' old new : List ℕ) (v : Judgement) (j : Judged file work work' old new v) (enough : work_size ≤ length work) (room : record_size ≤ length old) where
+module _ (d : Demand3) (work work' old new : List ℕ) (v : Answer) (j : Judged file work work' old new v) (enough : work_size ≤ length work) (room : record_size ≤ length old) where
   said : (rule : PlanRule file layout) → Says file layout rule new v
   said rule = d.says file work work' old new v j enough room layout accepted rule
 

@@ -7,6 +7,7 @@ use mathlib.Core.List.{List, [], ◌∷◌}
 use mathlib.Core.Option.{Option, none, some, some-ne-none}
 use Prim.Native.Nat.{ℕ, ◌≤◌}
 use native.Mathlib.Omega.{arith}
+use Rattle.std.specs.Prelude.{Ok}
 use lib.ListN.{length}
 use Rattle.blocks.specs.Bounded.{every, total}
 use Rattle.hours.specs.Hours.{window_from, leaf_window}
@@ -16,7 +17,6 @@ use Rattle.nodes.specs.Fold.{fold_from}
 use Rattle.bodies.specs.Rule.{rule_from}
 use Rattle.plan.specs.Reading.{bytes_of, read_of}
 use Rattle.plan.specs.declared.Layout.{Layout}
-use Rattle.plan.specs.declared.Reading.TheVariants.{Accepted}
 use Rattle.runs.proofs.Leaves.{holds_none, holds_only}
 use Rattle.state.specs.State.{told_by, leaf_permits, may_come, replay, entries_from}
 use Rattle.state.specs.declared.Entry.{Entry}
@@ -56,7 +56,7 @@ file = 1 ∷ 0 ∷ 1 ∷ 0 ∷ 3 ∷ 0 ∷ 0 ∷ 2 ∷ 0 ∷ 9 ∷ 0 ∷ 3 ∷ 0
 abbrev layout : Layout
 layout = record { types = record { at = 4; len = 1 }; pairs = record { at = 9; len = 0 }; nodes = record { at = 13; len = 9 }; rule = record { at = 26; len = 1 } }
 
-accepted : read_of file ≡ Accepted layout
+accepted : read_of file ≡ Ok layout
 unfolding every total fold_from rule_from
 accepted = refl
 

@@ -3,9 +3,10 @@ use mathlib.Core.Path.{◌≡◌, refl, sym, ap, subst, ◌∙◌}
 use mathlib.Core.Bool.{true, false, not}
 use mathlib.Core.List.{List}
 use mathlib.Core.Logic.{◌⊎◌, inl, inr}
-use mathlib.Core.Option.{none, some, some-injective, none-ne-some, some-ne-none}
+use mathlib.Core.Option.{some, some-injective, none-ne-some, some-ne-none}
 use Prim.Native.Nat.{ℕ, ◌≤◌, ◌<◌}
 use native.Mathlib.Omega.{arith}
+use Rattle.std.specs.Prelude.{Result, Ok, Err}
 use lib.Dec.{ltb}
 use lib.ListN.{length}
 use borrow.Author.Tests.{ltb-true, ltb-false}
@@ -14,8 +15,8 @@ use Rattle.plan.specs.PlanFile.{most_actions, most_pairs, Bytes, PlanFile}
 use Rattle.plan.specs.Refusals.{BlockFault, Unless, NodesFault, Broken}
 use Rattle.plan.specs.Reading as reader
 use Rattle.plan.specs.declared.Layout.{Layout}
-use Rattle.plan.specs.declared.Reading.{Reading}
-use Rattle.plan.specs.declared.Reading.TheVariants as reading
+use Rattle.plan.specs.Fault.{number}
+use Rattle.plan.specs.declared.Fault.{Fault}
 use Rattle.plan.proofs.Demand1.{demand1}
 use Rattle.state.specs.declared.Entry.{Entry}
 use Rattle.job.specs.Job.{refusal, no_job, start_on, start_of, take_of}
@@ -25,16 +26,14 @@ use Rattle.job.specs.Demand2.{plan_process, Continues, Takes}
 use Rattle.job.specs.declared.Job.{Job}
 use Rattle.job.specs.declared.Taken.{Taken}
 use Rattle.job.specs.declared.Told.{Told}
-use Rattle.job.specs.declared.Answer.TheVariants as answer
+use Rattle.job.specs.declared.Refusal.TheVariants as why
 use Rattle.job.proofs.Demand2.{demand2}
 use Rattle.job.proofs.Real.{refused_or_permitted}
-use Rattle.least.specs.declared.Least.{Least}
-use Rattle.least.specs.declared.Least.TheVariants.{Found, Nothing}
-use Rattle.judge.specs.Verdict.{work_size, record_size}
+use Rattle.judge.specs.Verdict.{Answer, work_size, record_size}
 use Rattle.judge.specs.Verdict as verdict
 use Rattle.judge.specs.Judged.{Judged}
 use Rattle.judge.specs.declared.Judgement.{Judgement}
-use Rattle.judge.specs.declared.Judgement.TheVariants.{Consistent, Violated, Refused}
+use Rattle.judge.specs.declared.Judgement.TheVariants.{Consistent, Violated}
 use Rattle.judge.proofs.Demand3.{found_answer, demand3}
 use Rattle.promises.specs.Refused.{Files, Permitted, Entries, Judges, consistent, violated, Areas, Demand1}
 
@@ -65,45 +64,41 @@ broken_number s n (Broken.in_rule types pairs nodes rest e t p k f) = block_numb
 broken_number s _ (Broken.bytes_after types pairs nodes rule tail e b h) = (omega arith, omega arith)
 
 -- what a reading's number says of the file
-refused_once : (a : Reading) (n m : ℕ) → a ≡ reading.Refused n → a ≡ reading.Refused m → n ≡ m
-refused_once a n m e f = cc
+not_both : (s : List ℕ) (l : Layout) (n : ℕ) → reader.read_of s ≡ Ok l → reader.number_of (reader.read_of s) ≡ some n → ⊥
+not_both s l n e f = none-ne-some n (ap reader.number_of (sym e) ∙ f)
 
-not_both : (a : Reading) (l : Layout) (n : ℕ) → a ≡ reading.Accepted l → a ≡ reading.Refused n → ⊥
-not_both a l n e f = let z : ◌≡◌ {A = ℕ} 0 1 = cc in omega arith
-
-files_by : (s : List ℕ) → Bytes s → (a : Reading) → reader.read_of s ≡ a → Files s (reader.number_of a)
-files_by s bytes (reading.Accepted l) e = record {
-  broken = λ n. (λ z. absurd (none-ne-some n z), λ b. absurd (not_both (reader.read_of s) l n e ((demand1.refuses s bytes n).1 b)));
+files_by : (s : List ℕ) → Bytes s → (a : Result Layout Fault) → reader.read_of s ≡ a → Files s (reader.number_of a)
+files_by s bytes (Ok l) e = record {
+  broken = λ n. (λ z. absurd (none-ne-some n z), λ b. absurd (not_both s l n e ((demand1.refuses s bytes n).1 b)));
   in_order = (λ z. (demand1.accepts s bytes).0 (l, e), λ f. refl);
   from_one = λ n z. absurd (none-ne-some n z);
 }
-files_by s bytes (reading.Refused k) e = record {
-  broken = λ n. (
-    λ z. (demand1.refuses s bytes n).0 (e ∙ ap reading.Refused (some-injective k n z)),
-    λ b. ap some (refused_once (reader.read_of s) k n e ((demand1.refuses s bytes n).1 b)),
-  );
-  in_order = (λ z. absurd (some-ne-none k z), λ f. absurd (let (l, g) = (demand1.accepts s bytes).1 f in not_both (reader.read_of s) l k g e));
-  from_one = λ n z. (broken_number s n ((demand1.refuses s bytes n).0 (e ∙ ap reading.Refused (some-injective k n z)))).0;
-}
+files_by s bytes (Err k) e =
+    let numbered : reader.number_of (reader.read_of s) ≡ some (number k) = ap reader.number_of e in
+    record {
+      broken = λ n. (λ z. (demand1.refuses s bytes n).0 (numbered ∙ z), λ b. sym numbered ∙ (demand1.refuses s bytes n).1 b);
+      in_order = (λ z. absurd (some-ne-none (number k) z), λ f. absurd (let (l, g) = (demand1.accepts s bytes).1 f in not_both s l (number k) g numbered));
+      from_one = λ n z. (broken_number s n ((demand1.refuses s bytes n).0 (numbered ∙ z))).0;
+    }
 
 files : (s : List ℕ) → Bytes s → Files s (reader.number_of (reader.read_of s))
 files s bytes = files_by s bytes (reader.read_of s) refl
 
 -- a start has the file's number
-start_number : (s : List ℕ) (a : Reading) → runner.number_of (start_on s a).answer ≡ reader.number_of a
-start_number s (reading.Accepted l) = refl
-start_number s (reading.Refused n) = refl
+start_number : (s : List ℕ) (a : Result Layout Fault) → runner.number_of (start_on s a).answer ≡ reader.number_of a
+start_number s (Ok l) = refl
+start_number s (Err f) = refl
 
-start_refused : (s : List ℕ) (a : Reading) (n : ℕ) → runner.number_of (start_on s a).answer ≡ some n → (start_on s a).job ≡ no_job
-start_refused s (reading.Accepted l) n h = absurd (none-ne-some n h)
-start_refused s (reading.Refused k) n h = refl
+start_refused : (s : List ℕ) (a : Result Layout Fault) (n : ℕ) → runner.number_of (start_on s a).answer ≡ some n → (start_on s a).job ≡ no_job
+start_refused s (Ok l) n h = absurd (none-ne-some n h)
+start_refused s (Err f) n h = refl
 
 -- a plan file is accepted, and a start on what is accepted tells
-accepting : (s : List ℕ) → Bytes s → PlanFile most_actions most_pairs s → (l : Layout) × (reader.read_of s ≡ reading.Accepted l)
+accepting : (s : List ℕ) → Bytes s → PlanFile most_actions most_pairs s → (l : Layout) × (reader.read_of s ≡ Ok l)
 accepting s bytes f = (demand1.accepts s bytes).1 f
 
-start_tells : (s : List ℕ) (l : Layout) → reader.read_of s ≡ reading.Accepted l → (t : Told) × ((start_of s).answer ≡ answer.Told t)
-start_tells s l h = (_, ap (λ (a : Reading). (start_on s a).answer) h)
+start_tells : (s : List ℕ) (l : Layout) → reader.read_of s ≡ Ok l → (t : Told) × ((start_of s).answer ≡ Ok t)
+start_tells s l h = (_, ap (λ (a : Result Layout Fault). (start_on s a).answer) h)
 
 -- an entry
 module _ (j : Job) (sized : Sized j) (e : Entry) where
@@ -114,10 +109,10 @@ module _ (j : Job) (sized : Sized j) (e : Entry) where
       let c = subst (λ (x : Job). Continues P (record_of x) e) r.is p.continues in
       subst (λ (x : Job). Takes e (record_of x) (take_of x e)) (sym r.is) ((demand2.honest r.file r.layout r.accepted r.entries).takes e c)
 
-  refuses : (Permitted j e → ⊥) → take_of j e ≡ refusal 11 j
+  refuses : (Permitted j e → ⊥) → take_of j e ≡ refusal why.Entry j
   refuses n = go (refused_or_permitted j sized e)
     where
-      go : (take_of j e ≡ refusal 11 j) ⊎ ((r : Real j) × Continues (plan_process r.file r.layout) (record_of j) e) → take_of j e ≡ refusal 11 j
+      go : (take_of j e ≡ refusal why.Entry j) ⊎ ((r : Real j) × Continues (plan_process r.file r.layout) (record_of j) e) → take_of j e ≡ refusal why.Entry j
       go (inl q) = q
       go (inr (r, c)) = absurd (n (record { real = r; continues = c }))
 
@@ -129,25 +124,20 @@ module _ (j : Job) (sized : Sized j) (e : Entry) where
   }
 
 -- a verdict
-found_number : (x : Least) → verdict.number_of (verdict.answer_of x) ≡ none
-found_number Nothing = refl
-found_number (Found t) = refl
+on_number : (s : List ℕ) (a : Result Layout Fault) → verdict.number_of (verdict.verdict_on s a) ≡ reader.number_of a
+on_number s (Ok l) = refl
+on_number s (Err f) = refl
 
-on_number : (s : List ℕ) (a : Reading) → verdict.number_of (verdict.verdict_on s a) ≡ reader.number_of a
-on_number s (reading.Accepted l) = found_number (verdict.smallest (λ t. not (verdict.keeps_rule s l t)) (verdict.plan_sets_of s l))
-on_number s (reading.Refused n) = refl
+refusal_changes_nothing : (s work work' old new : List ℕ) (v : Answer) → Judged s work work' old new v → (n : ℕ) → verdict.number_of v ≡ some n → (work' ≡ work) × (new ≡ old)
+refusal_changes_nothing s work work' old new (Ok x) j n h = absurd (none-ne-some n h)
+refusal_changes_nothing s work work' old new (Err r) j n h = (j.area_after, j.record_after)
 
-refusal_changes_nothing : (s work work' old new : List ℕ) (v : Judgement) → Judged s work work' old new v → (n : ℕ) → verdict.number_of v ≡ some n → (work' ≡ work) × (new ≡ old)
-refusal_changes_nothing s work work' old new Consistent j n h = absurd (none-ne-some n h)
-refusal_changes_nothing s work work' old new (Violated t) j n h = absurd (none-ne-some n h)
-refusal_changes_nothing s work work' old new (Refused k) j n h = (j.area_after, j.record_after)
+-- a judgement is an answer that judges
+judges : (x : Judgement) → Judges (Ok x)
+judges Consistent = consistent
+judges (Violated t) = violated t
 
--- what is found is an answer that judges
-found_judges : (x : Least) → Judges (verdict.answer_of x)
-found_judges Nothing = consistent
-found_judges (Found t) = violated t
-
-module _ (s work work' old new : List ℕ) (v : Judgement) (bytes : Bytes s) (j : Judged s work work' old new v) where
+module _ (s work work' old new : List ℕ) (v : Answer) (bytes : Bytes s) (j : Judged s work work' old new v) where
   abbrev W : ℕ
   W = length work
 
@@ -181,7 +171,7 @@ module _ (s work work' old new : List ℕ) (v : Judgement) (bytes : Bytes s) (j 
   is_judged h k f =
       let (l, g) = accepting s bytes f in
       let found = verdict.smallest (λ t. not (verdict.keeps_rule s l t)) (verdict.plan_sets_of s l) in
-      subst Judges (sym (j.answer ∙ found_answer s W R h k ∙ ap (verdict.verdict_on s) g)) (found_judges found)
+      subst Judges (sym (j.answer ∙ found_answer s W R h k ∙ ap (verdict.verdict_on s) g)) (judges (verdict.answer_of found))
 
   areas_by : Case → Areas s work work' old new v
   areas_by (no_work h e) = record {

@@ -1,6 +1,6 @@
 -- Each demand at work on small plans: what follows from it alone, with an example for each of its fields and for each field of the records that it is made of. Where such a field is
 -- weakened to nothing, the proof of its example fails. `from_demands` in proofs/ draws each from its demand, and the contract of `exemplified` asks for them.
-use Rattle.std.specs.Prelude.{◌≡◌, true, false, List, [], ◌∷◌, ◌⊎◌, ℕ, ◌/◌, ◌%◌, ◌^◌, ◌≤◌, ◌<◌, length, get_or, take, drop, replicate}
+use Rattle.std.specs.Prelude.{◌≡◌, true, false, List, [], ◌∷◌, ◌⊎◌, ℕ, ◌/◌, ◌%◌, ◌^◌, ◌≤◌, ◌<◌, length, get_or, take, drop, replicate, Ok}
 use Rattle.std.proofs.Math.Option.{Option, none, some}
 use Rattle.process.specs.Process.{Status, ok, fail, either, Process, leaf, entry, Run}
 use Rattle.process.specs.Figure2.{Complete}
@@ -11,7 +11,6 @@ use Rattle.plan.specs.Refusals.{Broken}
 use Rattle.plan.specs.Reading.{bytes_of, read_of}
 use Rattle.plan.specs.Reading as reader
 use Rattle.plan.specs.declared.Layout.{Layout}
-use Rattle.plan.specs.declared.Reading.TheVariants.{Accepted}
 use Rattle.state.specs.State.{entries_from}
 use Rattle.state.specs.declared.Entry.{Entry}
 use Rattle.job.specs.Job.{no_job, fresh_job, start_of, take_of}
@@ -21,13 +20,11 @@ use Rattle.job.specs.Offer.{Standing, offer, started, status_number, record_of, 
 use Rattle.job.specs.Lists.{taken_from}
 use Rattle.job.specs.declared.Job.{Job}
 use Rattle.job.specs.declared.Told.{Told}
-use Rattle.job.specs.declared.Answer.TheVariants as answer
-use Rattle.judge.specs.Verdict.{work_size, record_size, says_consistent, set_given}
+use Rattle.judge.specs.Verdict.{Answer, work_size, record_size, says_consistent, set_given}
 use Rattle.judge.specs.Verdict as verdict
 use Rattle.judge.specs.Shown.{shown_entries, shown_run, ShowsRun}
 use Rattle.judge.specs.Judged.{Judged, cleared_work}
 use Rattle.judge.specs.Demand3.{PlanRule, keeps}
-use Rattle.judge.specs.declared.Judgement.{Judgement}
 use Rattle.judge.specs.declared.Judgement.TheVariants.{Consistent, Violated}
 use Rattle.promises.specs.Refused.{Demand1}
 use Rattle.promises.specs.Runner.{Demand2}
@@ -94,26 +91,26 @@ pub record FromEntries : Type 0 where
   pub taken : (s : Status) → (runner.number_of (take_of (fresh_job file) (ended s)).answer ≡ none) × (record_of (take_of (fresh_job file) (ended s)).job ≡ entry 0 s ∷ [])
 
 -- So it is of every verdict on the file in areas that are large enough.
-abbrev pub Always : List ℕ → (List ℕ → List ℕ → List ℕ → List ℕ → Judgement → Type 0) → Type 0
-Always s So = (work work' old new : List ℕ) (v : Judgement) → Judged s work work' old new v → work_size ≤ length work → record_size ≤ length old → So work work' old new v
+abbrev pub Always : List ℕ → (List ℕ → List ℕ → List ℕ → List ℕ → Answer → Type 0) → Type 0
+Always s So = (work work' old new : List ℕ) (v : Answer) → Judged s work work' old new v → work_size ≤ length work → record_size ≤ length old → So work work' old new v
 
 -- `Areas`.
 pub record FromAreas : Type 0 where
-  pub short_work : (s work' old new : List ℕ) (v : Judgement) → Bytes s → Judged s [] work' old new v → verdict.number_of v ≡ some 10
+  pub short_work : (s work' old new : List ℕ) (v : Answer) → Bytes s → Judged s [] work' old new v → verdict.number_of v ≡ some 10
   pub enough_work : (s : List ℕ) → Bytes s → Always s (λ work work' old new v. verdict.number_of v ≡ some 10 → ⊥)
-  pub short_record : (s work work' new : List ℕ) (v : Judgement) → Bytes s → Judged s work work' [] new v → work_size ≤ length work → verdict.number_of v ≡ some 12
+  pub short_record : (s work work' new : List ℕ) (v : Answer) → Bytes s → Judged s work work' [] new v → work_size ≤ length work → verdict.number_of v ≡ some 12
   pub enough_record : (s : List ℕ) → Bytes s → Always s (λ work work' old new v. verdict.number_of v ≡ some 12 → ⊥)
   pub file : (s : List ℕ) → Bytes s → length s < 4 → Always s (λ work work' old new v. verdict.number_of v ≡ some 1)
   pub unchanged : (s : List ℕ) → Bytes s → length s < 4 → Always s (λ work work' old new v. (work' ≡ work) × (new ≡ old))
-  pub judged : (t : ℕ) → 1 ≤ t → t ≤ 3 → Always (plan_of t) (λ work work' old new v. (v ≡ Consistent) ⊎ ((set : ℕ) × (v ≡ Violated set)))
+  pub judged : (t : ℕ) → 1 ≤ t → t ≤ 3 → Always (plan_of t) (λ work work' old new v. (v ≡ Ok Consistent) ⊎ ((set : ℕ) × (v ≡ Ok (Violated set))))
 
 pub record FromDemand1 : Type 0 where
   pub reading : Demand1 → FromFiles (λ s. reader.number_of (read_of s))
-  pub accepting : Demand1 → (t : ℕ) → 1 ≤ t → t ≤ 3 → (l : Layout) × (read_of (plan_of t) ≡ Accepted l)
+  pub accepting : Demand1 → (t : ℕ) → 1 ≤ t → t ≤ 3 → (l : Layout) × (read_of (plan_of t) ≡ Ok l)
   -- the first byte is the number of actions (blocks), and this is 1 to 10 (holds)
-  pub bodies : Demand1 → (s : List ℕ) → Bytes s → (l : Layout) → read_of s ≡ Accepted l → (get_or s 0 0 ≡ length (bytes_of s l.types)) × (1 ≤ get_or s 0 0) × (get_or s 0 0 ≤ 10)
+  pub bodies : Demand1 → (s : List ℕ) → Bytes s → (l : Layout) → read_of s ≡ Ok l → (get_or s 0 0 ≡ length (bytes_of s l.types)) × (1 ≤ get_or s 0 0) × (get_or s 0 0 ≤ 10)
   pub starting : Demand1 → FromFiles (λ s. runner.number_of (start_of s).answer)
-  pub telling : Demand1 → (t : ℕ) → 1 ≤ t → t ≤ 3 → (told : Told) × ((start_of (plan_of t)).answer ≡ answer.Told told)
+  pub telling : Demand1 → (t : ℕ) → 1 ≤ t → t ≤ 3 → (told : Told) × ((start_of (plan_of t)).answer ≡ Ok told)
   pub no_start : Demand1 → (s : List ℕ) → Bytes s → length s < 4 → (start_of s).job ≡ no_job
   pub no_job_lem : Demand1 → (s : List ℕ) → Bytes s → length s < 4 → Real (start_of s).job → ⊥
   pub entering : Demand1 → FromEntries
@@ -159,7 +156,7 @@ pub record FromCarries (j : Job) : Type 0 where
   pub zeros : j.taken ≤ 62 → get_or j.entries 124 0 ≡ 0
 
 pub record FromDemand2 : Type 0 where
-  pub starts : Demand2 → (t : ℕ) → read_of (plan_of t) ≡ Accepted layout → FromStarts t
+  pub starts : Demand2 → (t : ℕ) → read_of (plan_of t) ≡ Ok layout → FromStarts t
   -- after whatever is offered
   pub honest : Demand2 → (es : List Entry) → FromHonest (offer fresh es)
   pub lists : Demand2 → FromLists
@@ -167,7 +164,7 @@ pub record FromDemand2 : Type 0 where
   pub no_prefix : Demand2 → (z : Run) (s t : Status) → Complete process (entry 0 s ∷ z) t → (z ≡ []) × (s ≡ t)
 
 -- `Says`, with `Violation`: the verdict on the plan is that it is violated by the set 0, with the run "0 2".
-pub record FromSays (new : List ℕ) (v : Judgement) : Type 0 where
+pub record FromSays (new : List ℕ) (v : Answer) : Type 0 where
   pub not_refused : verdict.number_of v ≡ none
   pub consistent : says_consistent v ≡ false
   pub plainest : shown_run (take record_size new) ≡ entry 0 fail ∷ []
@@ -191,7 +188,7 @@ pub record FromDemand3 : Type 0 where
   pub leaves : Demand3 → Always file (λ work work' old new v. FromLeaves work work' old new)
   pub leaves_zeros : Demand3 → Always kept (λ work work' old new v. take record_size new ≡ replicate record_size 0)
   pub only_shown : Demand3 → (bytes : List ℕ) → ShowsRun file layout 0 bytes → bytes ≡ 0 ∷ 2 ∷ replicate 124 0
-  pub one_answer : Demand3 → (work work' work'' old new new' : List ℕ) (v v' : Judgement) → Judged file work work' old new v → Judged file work work'' old new' v'
+  pub one_answer : Demand3 → (work work' work'' old new new' : List ℕ) (v v' : Answer) → Judged file work work' old new v → Judged file work work'' old new' v'
       → (v ≡ v') × (work' ≡ work'') × (new ≡ new')
 
 pub record FromDemands : Type 0 where

@@ -1,11 +1,10 @@
 -- Document 02, N1: typed rules in plan files. "A letter that the plan lacks meets 9 when its file is read."
-use Rattle.std.specs.Prelude.{◌≡◌, List, ◌++◌, ℕ, ◌≤◌, length}
+use Rattle.std.specs.Prelude.{◌≡◌, List, ◌++◌, ℕ, ◌≤◌, length, Ok}
 use Rattle.std.proofs.Math.Option.{some}
 use Rattle.blocks.specs.Block.{block}
 use Rattle.plan.specs.PlanFile.{most_actions, most_pairs, Bytes, TypesBody, PairsBody, NodesBody}
 use Rattle.plan.specs.Reading.{read_of, number_of}
 use Rattle.plan.specs.declared.Layout.{Layout}
-use Rattle.plan.specs.declared.Reading.TheVariants.{Accepted}
 use Rattle.grammar.specs.Typed.{Below}
 use Rattle.formula.specs.Answer.{room, answer_of, HandsBack}
 
@@ -25,7 +24,7 @@ pub record TypedInto (text p types pairs nodes : List ℕ) : Type 0 where
 pub record TypedPlans : Type 0 where
   -- a plan that has every letter of the text takes it,
   pub taken : (text p types pairs nodes : List ℕ) → TypedInto text p types pairs nodes → Below (length types) p
-      → (l : Layout) × (read_of (file_of types pairs nodes p) ≡ Accepted l)
+      → (l : Layout) × (read_of (file_of types pairs nodes p) ≡ Ok l)
   -- and one that lacks a letter is refused with 9
   pub nine : (text p types pairs nodes : List ℕ) → TypedInto text p types pairs nodes → (Below (length types) p → ⊥)
       → number_of (read_of (file_of types pairs nodes p)) ≡ some 9

@@ -6,9 +6,11 @@ use mathlib.Core.Logic.{◌⊎◌, inl, inr}
 use Prim.Native.Nat.{ℕ, suc, ◌+◌, ◌-◌, ◌≤◌, ◌<◌}
 use native.Mathlib.Numerals.{add-one}
 use native.Mathlib.Omega.{arith}
-use lib.Dec.{ltb, eqb}
+use lib.Dec.{ltb}
 use lib.ListN.{length, drop}
-use borrow.Author.Tests.{lt-ltb, ltb-true, ltb-false, ne_eqb, eqb-true, eqb-false}
+use borrow.Author.Tests.{lt-ltb, ltb-true, ltb-false}
+use Rattle.std.proofs.Common.{Option, Some, None}
+use Rattle.std.proofs.lemmas.Option.{none-some, same_Some, cond_some}
 use Rattle.blocks.proofs.Bounded.{decide}
 use Rattle.grammar.specs.Token.{Token, letter, not, operator, and, or, implies, opening, closing}
 use Rattle.grammar.specs.Spelling.{Spells}
@@ -16,91 +18,90 @@ use Rattle.grammar.specs.Next.{number, first, others, token_number, size, blanks
 use Rattle.grammar.specs.Typed.{Typed, deepest}
 use Rattle.grammar.specs.Passes as p
 use Rattle.grammar.specs.Passes.{Passes, weight, weights}
-use Rattle.grammar.proofs.Lexing.{Valid, valid, known, small}
+use Rattle.grammar.proofs.Lexing.{Valid, small, one_text}
 use Rattle.grammar.proofs.Views as views
 use Rattle.grammar.proofs.Views.{View, view, begins, ends}
 use Rattle.grammar.proofs.Passing.{whole_passes, weighs}
 use Rattle.grammar.proofs.Parsing.{in_grammar}
 use Rattle.grammar.proofs.Decided.{never_wrong}
-use Rattle.tokens.specs.Tokens.{next_of}
+use Rattle.tokens.specs.Tokens as tokens
+use Rattle.tokens.specs.Tokens.{next_of, size_of, token_of}
 use Rattle.tokens.specs.declared.Next.{Next}
-use Rattle.tokens.proofs.Tokens.{seen, next_place, next_near, shorter}
+use Rattle.tokens.specs.declared.Token as token
+use Rattle.tokens.specs.declared.Token.TheVariants.{Letter, Not, And, Or, Implies, Opening, Closing, Wrong, End}
+use Rattle.tokens.proofs.Tokens.{seen, size_of_token, next_number, next_place, next_near, shorter}
+use Rattle.tokens.proofs.Scan.{letter_of}
 use Rattle.recognizer.specs.Pass.{passing, stepped, ended}
 use Rattle.recognizer.specs.Count.{count_of}
 use Rattle.recognizer.specs.declared.Pass.{Pass}
-use Rattle.recognizer.specs.declared.Count.TheVariants.{Outside, Bytes}
 use Rattle.recognizer.proofs.Counts.{none_counted, so_many_counted}
 
--- The token that the next number is of.
-record TokenAt (k : ℕ) : Type 0 where
+-- The token that stands next.
+record TokenAt (text : List ℕ) (at : ℕ) : Type 0 where
   t : Token
   valid : Valid t
-  kind : k ≡ number t
+  is : token_number (clear (drop at text)) ≡ number t
 
-token_at : (text : List ℕ) (at : ℕ) → (next_of text at).kind < 0xFE → TokenAt (next_of text at).kind
-token_at text at h = go (clear (drop at text)) (token_number (clear (drop at text))) h (view (clear (drop at text)))
+token_at : (text : List ℕ) (at : ℕ) → 1 ≤ size_of (next_of text at).kind → TokenAt text at
+token_at text at h = go (clear (drop at text)) (token_number (clear (drop at text))) refl (rw size_of_token at h) (view (clear (drop at text)))
   where
-    go : (b : List ℕ) (n : ℕ) → n < 0xFE → View b n → TokenAt n
-    go b n l views.none = absurd (omega arith)
-    go b n l views.wrong = absurd (omega arith)
-    go b n l (views.token t v front) = record { t = t; valid = v; kind = refl }
+    go : (b : List ℕ) (n : ℕ) → token_number (clear (drop at text)) ≡ n → 1 ≤ size n → View b n → TokenAt text at
+    go b n e l views.none = absurd (omega arith)
+    go b n e l views.wrong = absurd (omega arith)
+    go b n e l (views.token t v front) = record { t = t; valid = v; is = e }
 
 -- A step where the token may come.
 record Forth (t : Token) (due : Bool) (k n : ℕ) (q : Pass) : Type 0 where
   passes_on : (ts : List Token) → Passes q.due q.depth ts → Passes due k (t ∷ ts)
   counts : q.count ≡ n + weight t
 
-forth_opening : (k n : ℕ) → (cond (ltb k deepest) (passing true true (k + 1) (n + 0)) (passing false true k n)).going ≡ true
-    → Forth opening true k n (cond (ltb k deepest) (passing true true (k + 1) (n + 0)) (passing false true k n))
-forth_opening k n e = go (decide (ltb k deepest))
-  where
-    go : (ltb k deepest ≡ true) ⊎ (ltb k deepest ≡ false) → Forth opening true k n (cond (ltb k deepest) (passing true true (k + 1) (n + 0)) (passing false true k n))
-    go (inl h) = rw h (record { passes_on = λ ts x. p.opened (ltb-true k deepest h) (rw (add-one k) at x); counts = omega arith })
-    go (inr h) = absurd (true≢false (sym (rw h at e)))
+module _ {t : Token} {due : Bool} {k n : ℕ} where
+  came : {r : Pass} (q : Pass) → Some q ≡ Some r → Forth t due k n q → Forth t due k n r
+  came {r} q e f = subst (λ (p : Pass). Forth t due k n p) (same_Some q r e) f
 
-forth_closing : (k n : ℕ) → (cond (ltb 0 k) (passing true false (k - 1) (n + 0)) (passing false false k n)).going ≡ true
-    → Forth closing false k n (cond (ltb 0 k) (passing true false (k - 1) (n + 0)) (passing false false k n))
-forth_closing k n e = go (decide (ltb 0 k))
+  came_where : {r : Pass} (b : Bool) (q : Pass) → cond b (Some q) None ≡ Some r → (b ≡ true → Forth t due k n q) → Forth t due k n r
+  came_where {r} b q e f = let s = cond_some b q r e in subst (λ (p : Pass). Forth t due k n p) s.1 (f s.0)
+
+forth_opening : (k n : ℕ) → ltb k deepest ≡ true → Forth opening true k n (passing true (k + 1) (n + 0))
+forth_opening k n h = record { passes_on = λ ts x. p.opened (ltb-true k deepest h) (rw (add-one k) at x); counts = omega arith }
+
+forth_closing : (k n : ℕ) → ltb 0 k ≡ true → Forth closing false k n (passing false (k - 1) (n + 0))
+forth_closing k n h = record { passes_on = λ ts x. one_less ts (ltb-true 0 k h) x; counts = omega arith }
   where
     one_less : (ts : List Token) → 0 < k → Passes false (k - 1) ts → Passes false k (closing ∷ ts)
     one_less ts h x = let f : suc (k - 1) ≡ k = omega arith in subst (λ (j : ℕ). Passes false j (closing ∷ ts)) f (p.closed x)
 
-    go : (ltb 0 k ≡ true) ⊎ (ltb 0 k ≡ false) → Forth closing false k n (cond (ltb 0 k) (passing true false (k - 1) (n + 0)) (passing false false k n))
-    go (inl h) = rw h (record { passes_on = λ ts x. one_less ts (ltb-true 0 k h) x; counts = omega arith })
-    go (inr h) = absurd (true≢false (sym (rw h at e)))
-
-forth : (t : Token) (due going : Bool) (k n : ℕ) → Valid t → (stepped (passing going due k n) (number t)).going ≡ true
-    → Forth t due k n (stepped (passing going due k n) (number t))
-forth (letter a) true going k n v e = rw (lt-ltb a 10 v) (record { passes_on = λ ts x. p.action v x; counts = refl })
-forth (letter a) false going k n v e =
-    absurd (true≢false (sym e ∙ (rw (ne_eqb a 0x81 (λ f. omega arith), ne_eqb a 0x82 (λ f. omega arith), ne_eqb a 0x83 (λ f. omega arith), ne_eqb a 0x85 (λ f. omega arith)))))
-forth not true going k n v e = record { passes_on = λ ts x. p.negated x; counts = refl }
-forth not false going k n v e = absurd (true≢false (sym e))
-forth (operator and) true going k n v e = absurd (true≢false (sym e))
-forth (operator and) false going k n v e = record { passes_on = λ ts x. p.joined x; counts = refl }
-forth (operator or) true going k n v e = absurd (true≢false (sym e))
-forth (operator or) false going k n v e = record { passes_on = λ ts x. p.joined x; counts = refl }
-forth implies true going k n v e = absurd (true≢false (sym e))
-forth implies false going k n v e = record { passes_on = λ ts x. p.implied x; counts = refl }
-forth opening true going k n v e = forth_opening k n e
-forth opening false going k n v e = absurd (true≢false (sym e))
-forth closing true going k n v e = absurd (true≢false (sym e))
-forth closing false going k n v e = forth_closing k n e
+forth : {r : Pass} (t : Token) (due : Bool) (k n : ℕ) → Valid t → stepped (passing due k n) (token_of (number t)) ≡ Some r → Forth t due k n r
+forth (letter a) true k n v e = came (passing false k (n + 1)) (rw letter_of at e) (record { passes_on = λ ts x. p.action v x; counts = refl })
+forth (letter a) false k n v e = absurd (none-some _ (rw (letter_of a v) at e))
+forth not true k n v e = came (passing true k (n + 1)) e (record { passes_on = λ ts x. p.negated x; counts = refl })
+forth not false k n v e = absurd (none-some _ e)
+forth (operator and) true k n v e = absurd (none-some _ e)
+forth (operator and) false k n v e = came (passing true k (n + 1)) e (record { passes_on = λ ts x. p.joined x; counts = refl })
+forth (operator or) true k n v e = absurd (none-some _ e)
+forth (operator or) false k n v e = came (passing true k (n + 1)) e (record { passes_on = λ ts x. p.joined x; counts = refl })
+forth implies true k n v e = absurd (none-some _ e)
+forth implies false k n v e = came (passing true k (n + 2)) e (record { passes_on = λ ts x. p.implied x; counts = refl })
+forth opening true k n v e = came_where (ltb k deepest) (passing true (k + 1) (n + 0)) e (forth_opening k n)
+forth opening false k n v e = absurd (none-some _ e)
+forth closing true k n v e = absurd (none-some _ e)
+forth closing false k n v e = came_where (ltb 0 k) (passing false (k - 1) (n + 0)) e (forth_closing k n)
 
 -- A token that comes in a text that passes.
-record Back (q : Pass) (ts : List Token) : Type 0 where
-  going_on : q.going ≡ true
+record Back (o : Option Pass) (ts : List Token) : Type 0 where
+  q : Pass
+  comes : o ≡ Some q
   passes_on : Passes q.due q.depth ts
 
-back : {due : Bool} {k : ℕ} {us : List Token} (going : Bool) (n : ℕ) → Passes due k us → (t : Token) (ts : List Token) → us ≡ t ∷ ts → Back (stepped (passing going due k n) (first us)) (others us)
-back going n p.end t ts e = absurd (let z : ◌≡◌ {A = ℕ} 0 1 = cc in omega arith)
-back going n (p.action {a = a} h x) t ts e = rw (lt-ltb a 10 h) (record { going_on = refl; passes_on = x })
-back going n (p.negated x) t ts e = record { going_on = refl; passes_on = x }
-back going n (p.opened {k = k} {ts = us} h x) t ts e = rw (lt-ltb k 16 h, add-one k) (record { going_on = refl; passes_on = x })
-back going n (p.joined {o = and} x) t ts e = record { going_on = refl; passes_on = x }
-back going n (p.joined {o = or} x) t ts e = record { going_on = refl; passes_on = x }
-back going n (p.implied x) t ts e = record { going_on = refl; passes_on = x }
-back going n (p.closed {k = k} x) t ts e = let f : suc k - 1 ≡ k = omega arith in rw (lt-ltb 0 (suc k) (omega arith), f) (record { going_on = refl; passes_on = x })
+back : {due : Bool} {k : ℕ} {us : List Token} (n : ℕ) → Passes due k us → (t : Token) (ts : List Token) → us ≡ t ∷ ts → Back (stepped (passing due k n) (token_of (first us))) (others us)
+back n p.end t ts e = absurd (let z : ◌≡◌ {A = ℕ} 0 1 = cc in omega arith)
+back n (p.action {a = a} h x) t ts e = rw (letter_of a h) (record { q = _; comes = refl; passes_on = x })
+back n (p.negated x) t ts e = record { q = _; comes = refl; passes_on = x }
+back n (p.opened {k = k} {ts = us} h x) t ts e = rw (lt-ltb k 16 h, add-one k) (record { q = _; comes = refl; passes_on = x })
+back n (p.joined {o = and} x) t ts e = record { q = _; comes = refl; passes_on = x }
+back n (p.joined {o = or} x) t ts e = record { q = _; comes = refl; passes_on = x }
+back n (p.implied x) t ts e = record { q = _; comes = refl; passes_on = x }
+back n (p.closed {k = k} x) t ts e = let f : suc k - 1 ≡ k = omega arith in rw (lt-ltb 0 (suc k) (omega arith), f) (record { q = _; comes = refl; passes_on = x })
 
 -- The whole text, from what is to come of it and back.
 pub record Whole (text : List ℕ) (n : ℕ) : Type 0 where
@@ -115,34 +116,38 @@ pub record Onward (text : List ℕ) (at : ℕ) (due : Bool) (k : ℕ) : Type 0 w
   pub passes_on : Passes due k ts
 
 -- The invariant of the pass.
-pub record Passing (text : List ℕ) (q : Pass) (at : ℕ) (t : Next) : Type 0 where
-  pub next : t ≡ next_of text at
+pub record Passing (text : List ℕ) (q : Pass) (at : ℕ) : Type 0 where
   pub most : q.count ≤ at
   pub within : at ≤ length text + 7
   pub forward : (ts : List Token) → Spells (drop at text) ts → Passes q.due q.depth ts → Whole text (q.count + weights ts)
   pub backward : (us : List Token) → Spells text us → Passes true 0 us → Onward text at q.due q.depth
 
-module _ (text : List ℕ) where
-  pub start : (t : Next) → t ≡ next_of text 0 → Passing text (passing true true 0 0) 0 t
-  start t e = record {
-    next = e;
-    most = omega arith;
-    within = omega arith;
-    forward = λ ts x y. record { us = ts; written = x; passes_whole = y; weight_of = omega arith };
-    backward = λ us x y. record { ts = us; left = x; passes_on = y };
-  }
+pub start : (text : List ℕ) → Passing text (passing true 0 0) 0
+start text = record {
+  most = omega arith;
+  within = omega arith;
+  forward = λ ts x y. record { us = ts; written = x; passes_whole = y; weight_of = omega arith };
+  backward = λ us x y. record { ts = us; left = x; passes_on = y };
+}
 
+ends_with : {due : Bool} {k : ℕ} {ts : List Token} → Passes due k ts → ts ≡ [] → (due ≡ false) × (k ≡ 0)
+ends_with p.end e = (refl, refl)
+ends_with (p.action h x) e = absurd (let z : ◌≡◌ {A = ℕ} 0 1 = cc in omega arith)
+ends_with (p.negated x) e = absurd (let z : ◌≡◌ {A = ℕ} 0 1 = cc in omega arith)
+ends_with (p.opened h x) e = absurd (let z : ◌≡◌ {A = ℕ} 0 1 = cc in omega arith)
+ends_with (p.joined x) e = absurd (let z : ◌≡◌ {A = ℕ} 0 1 = cc in omega arith)
+ends_with (p.implied x) e = absurd (let z : ◌≡◌ {A = ℕ} 0 1 = cc in omega arith)
+ends_with (p.closed x) e = absurd (let z : ◌≡◌ {A = ℕ} 0 1 = cc in omega arith)
+
+module _ (text : List ℕ) (at : ℕ) where
   -- what passes is not at its end where a token is next
-  first_of : (at : ℕ) (ts : List Token) → (next_of text at).kind < 0xFE → Spells (drop at text) ts → (0xFF ≡ first ts → ⊥)
-  first_of at ts h x e = let s = (seen text at x).this in omega arith
-
-  onward : (q : Pass) (at : ℕ) (ts : List Token) → (next_of text at).kind < 0xFE → Spells (drop at text) ts → Passes q.due q.depth ts
+  onward : (q : Pass) (ts : List Token) → 1 ≤ size_of (next_of text at).kind → Spells (drop at text) ts → Passes q.due q.depth ts
       → Back (stepped q (next_of text at).kind) (others ts)
-  onward q at [] h x y = absurd (first_of at [] h x refl)
-  onward q at (t ∷ ts) h x y = rw (seen text at x).this (back q.going q.count y t ts refl)
+  onward q [] h x y = absurd (let k = ap size_of (seen text at x).this in omega arith)
+  onward q (u ∷ ts) h x y = rw (seen text at x).this (back q.count y u ts refl)
 
-  grows : (t : Token) (at : ℕ) → Valid t → (next_of text at).kind ≡ number t → at + weight t ≤ (next_of text at).at
-  grows t at v e = rw e (sum at (blanks (drop at text)) (size (number t)) (weight t) (least t v))
+  grows : (t : Token) → Valid t → token_number (clear (drop at text)) ≡ number t → at + weight t ≤ (next_of text at).at
+  grows t v e = rw e (sum at (blanks (drop at text)) (size (number t)) (weight t) (least t v))
     where
       sum : (a b c d : ℕ) → d ≤ c → a + d ≤ a + b + c
       sum a b c d h = omega arith
@@ -156,93 +161,113 @@ module _ (text : List ℕ) where
       least opening v = omega arith
       least closing v = omega arith
 
-  pub step : (q : Pass) (at : ℕ) (t u : Next) → Passing text q at t → t.kind < 0xFE → (stepped q t.kind).going ≡ true → u ≡ next_of text t.at
-      → Passing text (stepped q t.kind) t.at u
-  unfolding weights
-  step q at t u i h g e =
-      let h' = rw i.next at h in
-      let a = token_at text at h' in
-      let f = forth a.t q.due q.going q.depth q.count a.valid (rw (i.next, a.kind) at g) in
-      rw i.next (record {
-        next = rw i.next at e;
-        most = subst (λ (k : ℕ). (stepped q k).count ≤ (next_of text at).at) (sym a.kind) (bound _ q.count (weight a.t) _ f.counts i.most (grows a.t at a.valid a.kind));
-        within = next_near text at h';
-        forward = λ ts x y. counted a.t ts f.counts a.kind (i.forward (a.t ∷ ts) (begins (drop at text) a.t ts a.valid a.kind (rw (next_place text at (number a.t) a.kind) x)) (f.passes_on ts (rw a.kind at y)));
-        backward = λ us x y. let b = i.backward us x y in record {
-          ts = others b.ts;
-          left = (seen text at b.left).next;
-          passes_on = (onward q at b.ts h' b.left b.passes_on).passes_on;
-        };
-      })
-    where
-      bound : (c b w r : ℕ) → c ≡ b + w → b ≤ at → at + w ≤ r → c ≤ r
-      bound c b w r e f k = omega arith
+  module _ {q : Pass} (i : Passing text q at) where
+    step : {r : Pass} → 1 ≤ size_of (next_of text at).kind → stepped q (next_of text at).kind ≡ Some r → Passing text r (next_of text at).at
+    unfolding weights
+    step {r} h e =
+        let a = token_at text at h in
+        let f = forth a.t q.due q.depth q.count a.valid (rw a.is at e) in
+        let c = f.counts in
+        let m = i.most in
+        let g = grows a.t a.valid a.is in
+        record {
+          most = omega arith;
+          within = next_near text at h;
+          forward = λ ts x y. subst (λ (n : ℕ). Whole text n) (sum q.count (weight a.t) (weights ts) r.count c)
+              (i.forward (a.t ∷ ts) (begins (drop at text) a.t ts a.valid a.is (rw (next_place text at (number a.t) a.is) x)) (f.passes_on ts y));
+          backward = λ us x y.
+              let b = i.backward us x y in
+              let o = onward q b.ts h b.left b.passes_on in
+              record {
+                ts = others b.ts;
+                left = (seen text at b.left).next;
+                passes_on = subst (λ (p : Pass). Passes p.due p.depth (others b.ts)) (same_Some o.q r (sym o.comes ∙ e)) o.passes_on;
+              };
+        }
+      where
+        sum : (a b c d : ℕ) → d ≡ a + b → a + (b + c) ≡ d + c
+        sum a b c d e = omega arith
 
-      counted : (v : Token) (ts : List Token) → (stepped q (number v)).count ≡ q.count + weight v → (next_of text at).kind ≡ number v → Whole text (q.count + weights (v ∷ ts))
-          → Whole text ((stepped q (next_of text at).kind).count + weights ts)
-      counted v ts c k w = let e : q.count + (weight v + weights ts) ≡ (stepped q (next_of text at).kind).count + weights ts = rw k (omega arith) in subst (λ (n : ℕ). Whole text n) e w
+    -- a token that may not come
+    lost : 1 ≤ size_of (next_of text at).kind → stepped q (next_of text at).kind ≡ None → None ≡ count_of text
+    lost h e =
+        none_counted text
+        (λ o z.
+        let b = i.backward z.tokens z.spelled (whole_passes z.part) in
+        let w = onward q b.ts h b.left b.passes_on in
+        none-some w.q (sym e ∙ w.comes))
 
-  -- a token that may not come
-  pub lost : (q : Pass) (at : ℕ) (t : Next) → Passing text q at t → t.kind < 0xFE → (stepped q t.kind).going ≡ false → Outside ≡ count_of text
-  lost q at t i h g =
-      none_counted text
-      (λ o z.
-      let b = i.backward z.tokens z.spelled (whole_passes z.part) in
-      true≢false (sym (onward q at b.ts (rw i.next at h) b.left b.passes_on).going_on ∙ (rw i.next at g)))
+    -- behind a token there is less of the text
+    less : 1 ≤ size_of (next_of text at).kind → length text - (next_of text at).at < length text - at
+    less h = shorter text at (next_of text at).at h (omega arith)
 
-  -- where no token is next
-  none_left : (at : ℕ) (ts : List Token) → 0xFE ≤ (next_of text at).kind → Spells (drop at text) ts → ts ≡ []
-  none_left at [] h x = refl
-  none_left at (t ∷ ts) h x = absurd (let s = (seen text at x).this in let k = (known t (valid x)).small in omega arith)
+    -- where bytes are next that spell no token
+    wrong : (next_of text at).kind ≡ Wrong → None ≡ count_of text
+    wrong e =
+        none_counted text
+        (λ o z.
+        let b = i.backward z.tokens z.spelled (whole_passes z.part) in
+        never_wrong (drop at text) b.ts (sym (next_number text at) ∙ ap tokens.number e) b.left)
 
-  at_the_end : (at : ℕ) → 0xFE ≤ (next_of text at).kind → ((next_of text at).kind ≡ 0xFE → ⊥) → Spells (drop at text) []
-  at_the_end at h other = ends (drop at text) (go (clear (drop at text)) (token_number (clear (drop at text))) h other (view (clear (drop at text))))
-    where
-      go : (b : List ℕ) (n : ℕ) → 0xFE ≤ n → (n ≡ 0xFE → ⊥) → View b n → n ≡ 0xFF
-      go b n l k views.none = refl
-      go b n l k views.wrong = absurd (k refl)
-      go b n l k (views.token t v front) = absurd (let m = (known t v).small in omega arith)
+    -- where the text is at its end
+    module _ (e : (next_of text at).kind ≡ End) where
+      at_the_end : Spells (drop at text) []
+      at_the_end = ends (drop at text) (sym (next_number text at) ∙ ap tokens.number e)
 
-  ends_with : {due : Bool} {k : ℕ} {ts : List Token} → Passes due k ts → ts ≡ [] → (due ≡ false) × (k ≡ 0)
-  ends_with p.end e = (refl, refl)
-  ends_with (p.action h x) e = absurd (let z : ◌≡◌ {A = ℕ} 0 1 = cc in omega arith)
-  ends_with (p.negated x) e = absurd (let z : ◌≡◌ {A = ℕ} 0 1 = cc in omega arith)
-  ends_with (p.opened h x) e = absurd (let z : ◌≡◌ {A = ℕ} 0 1 = cc in omega arith)
-  ends_with (p.joined x) e = absurd (let z : ◌≡◌ {A = ℕ} 0 1 = cc in omega arith)
-  ends_with (p.implied x) e = absurd (let z : ◌≡◌ {A = ℕ} 0 1 = cc in omega arith)
-  ends_with (p.closed x) e = absurd (let z : ◌≡◌ {A = ℕ} 0 1 = cc in omega arith)
+      ending : (o : List ℕ) → Typed text o → (q.due ≡ false) × (q.depth ≡ 0)
+      ending o z =
+          let b = i.backward z.tokens z.spelled (whole_passes z.part) in
+          ends_with b.passes_on (one_text b.ts [] b.left at_the_end)
 
-  ending : (q : Pass) (at : ℕ) (t : Next) → Passing text q at t → 0xFE ≤ (next_of text at).kind → (o : List ℕ) → Typed text o → (q.due ≡ false) × (q.depth ≡ 0)
-  ending q at t i h o z =
-      let b = i.backward z.tokens z.spelled (whole_passes z.part) in
-      ends_with b.passes_on (none_left at b.ts h b.left)
+      becomes : (n : ℕ) → Whole text (n + weights []) → Some n ≡ count_of text
+      unfolding weights
+      becomes n w =
+          let x = in_grammar w.us w.passes_whole in
+          so_many_counted text x.postfix n (record { tokens = w.us; spelled = w.written; part = x.part })
+          (let a = weighs x.part in let b = w.weight_of in omega arith)
 
-  becomes : (n : ℕ) → Whole text (n + weights []) → Bytes n ≡ count_of text
-  unfolding weights
-  becomes n w =
-      let x = in_grammar w.us w.passes_whole in
-      so_many_counted text x.postfix n (record { tokens = w.us; spelled = w.written; part = x.part })
-      (let a = weighs x.part in let b = w.weight_of in omega arith)
+      done : q.due ≡ false → q.depth ≡ 0 → Passes q.due q.depth []
+      done a b = rw (a, b) p.end
 
-  pub finish : (q : Pass) (at : ℕ) (t : Next) → Passing text q at t → 0xFE ≤ t.kind → ended q t.kind ≡ count_of text
-  finish q at t i h = go (decide (eqb t.kind 0xFE)) (decide q.due) (decide (ltb 0 q.depth))
-    where
-      h' : 0xFE ≤ (next_of text at).kind
-      h' = rw i.next at h
+      finish_end : ended q End ≡ count_of text
+      finish_end = go (decide q.due) (decide (ltb 0 q.depth))
+        where
+          go : (q.due ≡ true) ⊎ (q.due ≡ false) → (ltb 0 q.depth ≡ true) ⊎ (ltb 0 q.depth ≡ false) → ended q End ≡ count_of text
+          go (inl d) k = rw d (none_counted text (λ o z. true≢false (sym d ∙ (ending o z).0)))
+          go (inr d) (inl k) = rw (d, k) (none_counted text (λ o z. let b = (ending o z).1 in let c = ltb-true 0 q.depth k in omega arith))
+          go (inr d) (inr k) = let none = ltb-false 0 q.depth k in rw (d, k) (becomes q.count (i.forward [] at_the_end (done d (omega arith))))
 
-      done : (due : Bool) (k : ℕ) → due ≡ false → k ≡ 0 → Passes due k []
-      done due k a b = rw (a, b) p.end
+    -- where no token is next
+    finish : ((next_of text at).kind ≡ Wrong) ⊎ ((next_of text at).kind ≡ End) → ended q (next_of text at).kind ≡ count_of text
+    finish (inl e) = rw e (wrong e)
+    finish (inr e) = rw e (finish_end e)
 
-      go : (eqb t.kind 0xFE ≡ true) ⊎ (eqb t.kind 0xFE ≡ false) → (q.due ≡ true) ⊎ (q.due ≡ false) → (ltb 0 q.depth ≡ true) ⊎ (ltb 0 q.depth ≡ false)
-          → ended q t.kind ≡ count_of text
-      go (inl e) d k =
-          rw e (none_counted text (λ o z. let b = i.backward z.tokens z.spelled (whole_passes z.part) in never_wrong (drop at text) b.ts (ap (λ (u : Next). u.kind) (sym i.next) ∙ eqb-true t.kind 0xFE e) b.left))
-      go (inr e) (inl d) k = rw (e, d) (none_counted text (λ o z. true≢false (sym d ∙ (ending q at t i h' o z).0)))
-      go (inr e) (inr d) (inl k) = rw (e, d, k) (none_counted text (λ o z. let b = (ending q at t i h' o z).1 in let c = ltb-true 0 q.depth k in omega arith))
-      go (inr e) (inr d) (inr k) =
-          let none = ltb-false 0 q.depth k in
-          rw (e, d, k) (becomes q.count (i.forward [] (at_the_end at h' (λ f. eqb-false t.kind 0xFE e (ap (λ (u : Next). u.kind) i.next ∙ f))) (done q.due q.depth d (omega arith))))
+-- a token that is none of those takes a byte or more
+takes : (t : token.Token) → (t ≡ Wrong → ⊥) → (t ≡ End → ⊥) → 1 ≤ size_of t
+takes (Letter a) w e = omega arith
+takes Not w e = omega arith
+takes And w e = omega arith
+takes Or w e = omega arith
+takes Implies w e = omega arith
+takes Opening w e = omega arith
+takes Closing w e = omega arith
+takes Wrong w e = absurd (w refl)
+takes End w e = absurd (e refl)
 
-  -- behind a token there is less of the text
-  pub less : (q : Pass) (at : ℕ) (t : Next) → Passing text q at t → t.kind < 0xFE → length text - t.at < length text - at
-  less q at t i h = rw i.next (shorter text at (next_of text at).at (rw i.next at h) (omega arith))
+-- what the turns of the loop show
+module _ {text : List ℕ} {q : Pass} {at : ℕ} {t : Next} (i : Passing text q at) (is : t ≡ next_of text at) where
+  pub ends_here : (t.kind ≡ Wrong) ⊎ (t.kind ≡ End) → ended q t.kind ≡ count_of text
+  ends_here e = rw is (finish text at i (rw is at e))
+
+  module _ (wrong : t.kind ≡ Wrong → ⊥) (end : t.kind ≡ End → ⊥) where
+    some : 1 ≤ size_of (next_of text at).kind
+    some = rw is at (takes t.kind wrong end)
+
+    pub stops_here : {o : Option Pass} → o ≡ stepped q t.kind → o ≡ None → None ≡ count_of text
+    stops_here e f = lost text at i some (rw is at (sym e ∙ f))
+
+    pub less_left : length text - t.at < length text - at
+    less_left = rw is (less text at i some)
+
+    pub goes_on : {o : Option Pass} {r : Pass} → o ≡ stepped q t.kind → o ≡ Some r → Passing text r t.at
+    goes_on e f = rw is (step text at i some (rw is at (sym e ∙ f)))

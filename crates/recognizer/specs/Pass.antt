@@ -1,39 +1,55 @@
 -- The pass over the tokens of a text, step by step.
-use Rattle.std.specs.Prelude.{Bool, true, false, cond, ℕ, ◌+◌, ◌-◌, ltb, eqb}
-use Rattle.grammar.specs.Next.{wrong}
+use Rattle.std.specs.Prelude.{Bool, true, false, cond, Option, Some, None, ℕ, ◌+◌, ◌-◌, ltb}
 use Rattle.grammar.specs.Typed.{deepest}
+use Rattle.tokens.specs.declared.Token.{Token}
+use Rattle.tokens.specs.declared.Token.TheVariants.{Letter, Not, And, Or, Implies, Opening, Closing, Wrong, End}
 use Rattle.recognizer.specs.declared.Pass.{Pass}
-use Rattle.recognizer.specs.declared.Count.{Count}
-use Rattle.recognizer.specs.declared.Count.TheVariants.{Outside, Bytes}
 
-abbrev pub passing : Bool → Bool → ℕ → ℕ → Pass
-passing going due depth count = record { going = going; due = due; depth = depth; count = count }
+abbrev pub passing : Bool → ℕ → ℕ → Pass
+passing due depth count = record { due = due; depth = depth; count = count }
 
--- After a token that may come, and after one that may not.
-abbrev pub onward : Pass → Bool → ℕ → ℕ → Pass
-onward p due depth more = passing true due depth (p.count + more)
+-- After a token that may come; there is no pass after one that may not.
+abbrev pub onward : Pass → Bool → ℕ → ℕ → Option Pass
+onward p due depth more = Some (passing due depth (p.count + more))
 
-abbrev pub stopped : Pass → Pass
-stopped p = passing false p.due p.depth p.count
+-- After a token, where an operand is due.
+abbrev pub stepped_operand : Pass → Token → Option Pass
+stepped_operand p (Letter a) = onward p false p.depth 1
+stepped_operand p Not = onward p true p.depth 1
+stepped_operand p And = None
+stepped_operand p Or = None
+stepped_operand p Implies = None
+stepped_operand p Opening = cond (ltb p.depth deepest) (onward p true (p.depth + 1) 0) None
+stepped_operand p Closing = None
+stepped_operand p Wrong = None
+stepped_operand p End = None
 
--- After the token of a number, where an operand is due.
-abbrev pub stepped_operand : Pass → ℕ → Pass
-stepped_operand p k =
-    cond (ltb k 10) (onward p false p.depth 1)
-    (cond (eqb k 0x80) (onward p true p.depth 1)
-    (cond (eqb k 0x84) (cond (ltb p.depth deepest) (onward p true (p.depth + 1) 0) (stopped p)) (stopped p)))
+-- After a token, where an operator is due.
+abbrev pub stepped_operator : Pass → Token → Option Pass
+stepped_operator p (Letter a) = None
+stepped_operator p Not = None
+stepped_operator p And = onward p true p.depth 1
+stepped_operator p Or = onward p true p.depth 1
+stepped_operator p Implies = onward p true p.depth 2
+stepped_operator p Opening = None
+stepped_operator p Closing = cond (ltb 0 p.depth) (onward p false (p.depth - 1) 0) None
+stepped_operator p Wrong = None
+stepped_operator p End = None
 
--- After the token of a number, where an operator is due.
-abbrev pub stepped_operator : Pass → ℕ → Pass
-stepped_operator p k =
-    cond (eqb k 0x81) (onward p true p.depth 1)
-    (cond (eqb k 0x82) (onward p true p.depth 1)
-    (cond (eqb k 0x83) (onward p true p.depth 2)
-    (cond (eqb k 0x85) (cond (ltb 0 p.depth) (onward p false (p.depth - 1) 0) (stopped p)) (stopped p))))
-
-abbrev pub stepped : Pass → ℕ → Pass
-stepped p k = cond p.due (stepped_operand p k) (stepped_operator p k)
+abbrev pub stepped : Pass → Token → Option Pass
+stepped p t = cond p.due (stepped_operand p t) (stepped_operator p t)
 
 -- When no token follows.
-abbrev pub ended : Pass → ℕ → Count
-ended p k = cond (eqb k wrong) Outside (cond p.due Outside (cond (ltb 0 p.depth) Outside (Bytes p.count)))
+abbrev pub is_wrong : Token → Bool
+is_wrong (Letter a) = false
+is_wrong Not = false
+is_wrong And = false
+is_wrong Or = false
+is_wrong Implies = false
+is_wrong Opening = false
+is_wrong Closing = false
+is_wrong Wrong = true
+is_wrong End = false
+
+abbrev pub ended : Pass → Token → Option ℕ
+ended p t = cond (is_wrong t) None (cond p.due None (cond (ltb 0 p.depth) None (Some p.count)))

@@ -1,5 +1,5 @@
 -- The line's bytes, put into a text; and a line has room in one: three bytes at most for each of 127, and a newline.
-use mathlib.Core.Path.{◌≡◌, refl, ap, ◌∙◌}
+use mathlib.Core.Path.{◌≡◌, ap, ◌∙◌}
 use mathlib.Core.Bool.{true, false}
 use mathlib.Core.List.{List, [], ◌∷◌}
 use mathlib.Core.Logic.{◌⊎◌, inl, inr}
@@ -12,14 +12,10 @@ use Rattle.text.specs.Lines.{refused, each}
 use Rattle.text.specs.Text.{empty, pushed, appended, text_of}
 use Rattle.text.specs.declared.Text.{Text}
 use Rattle.text.proofs.Ends.{each_few, lined, numbered_short, put_alone}
-use Rattle.formula.specs.declared.Answer.{Answer}
-use Rattle.formula.specs.declared.Answer.TheVariants.{Postfix, Refused}
+use Rattle.std.proofs.Common.{Ok, Err}
+use Rattle.formula.specs.Numbers.{Answer, number}
 use Rattle.formula.specs.declared.Turned.{Turned}
 use Rattle.reply.specs.Line.{item, item_at, line_with, line_for}
-
-pub two : (t : Text) (a b : ℕ) → pushed (pushed t a) b ≡ appended t (a ∷ b ∷ [])
-unfolding appended
-two t a b = refl
 
 item_few : (i b : ℕ) → length (item i b) ≤ 3
 item_few i b = go (decide (eqb i 0))
@@ -29,15 +25,15 @@ item_few i b = go (decide (eqb i 0))
     go (inr h) = rw h (omega arith)
 
 pub line_short : (bytes : List ℕ) (a : Answer) → length (line_with bytes a) ≤ 640
-line_short bytes (Postfix n) =
+line_short bytes (Ok n) =
     let e = each_few (item_at bytes) 3 0 (min n 127) (λ j h. item_few j (get_or bytes j 0)) in
     let f = length-append (each (item_at bytes) 0 (min n 127)) (10 ∷ []) in
     omega arith
-line_short bytes (Refused k) = let h = numbered_short refused k (omega arith) in omega arith
+line_short bytes (Err f) = let h = numbered_short refused (number f) (omega arith) in omega arith
 
-pub line_put : {e g r : Text} {n : ℕ} (q : Turned) → q.answer ≡ Postfix n → e ≡ empty → g ≡ appended e (each (item_at q.bytes) 0 (min n 127)) → r ≡ pushed g 10
+pub line_put : {e g r : Text} {n : ℕ} (q : Turned) → q.answer ≡ Ok n → e ≡ empty → g ≡ appended e (each (item_at q.bytes) 0 (min n 127)) → r ≡ pushed g 10
     → r ≡ text_of (line_for q)
 line_put {e} {n = n} q i f h k =
     rw i
-    (put_alone (line_with q.bytes (Postfix n)) (k ∙ ap (λ (t : Text). pushed t 10) h ∙ lined e (each (item_at q.bytes) 0 (min n 127))) f
-    (line_short q.bytes (Postfix n)))
+    (put_alone (line_with q.bytes (Ok n)) (k ∙ ap (λ (t : Text). pushed t 10) h ∙ lined e (each (item_at q.bytes) 0 (min n 127))) f
+    (line_short q.bytes (Ok n)))

@@ -10,13 +10,11 @@ use lib.ListN.{length, get_or, take, length-append}
 use lib.Seq.{get_or-append-add, length-take-le, take_all, take_at}
 use borrow.Author.Tests.{lt-ltb, ltb-true, ltb-false, leb-true, leb-false, ne_eqb}
 use Rattle.blocks.proofs.Bounded.{decide}
+use Rattle.std.proofs.Common.{Result, Err}
+use Rattle.std.specs.Result.{IsErr}
 use Rattle.text.specs.Text.{text_of}
 use Rattle.reply.specs.Reply.{longest, typed_length, typed_in, too_long_line, reply_to, ReadsEnough, TakesTexts}
-use Rattle.reply.specs.declared.Reply.{Reply}
-
-pub empty_length : (input : List ℕ) → length input ≡ 0 → 0 ≡ typed_length input
-empty_length [] e = refl
-empty_length (x ∷ b) e = absurd (omega arith)
+use Rattle.text.specs.declared.Text.{Text}
 
 -- at most one byte is no part of the text
 nearly_all : (input : List ℕ) → length input ≤ typed_length input + 1
@@ -26,8 +24,8 @@ nearly_all input = go (decide (eqb (get_or input (length input - 1) 0) 10))
     go (inl h) = rw h (omega arith)
     go (inr h) = rw h (omega arith)
 
-abbrev told_long : Reply
-told_long = record { too_long = true; line = text_of too_long_line }
+abbrev told_long : Result Text Text
+told_long = Err (text_of too_long_line)
 
 long : (input : List ℕ) → longest + 1 < length input → reply_to input ≡ told_long
 long input h = let n = nearly_all input in rw (lt-ltb longest (typed_length input) (omega arith))
@@ -64,13 +62,13 @@ no_longer input = go (decide (eqb (get_or input (length input - 1) 0) 10))
     go (inl h) = rw h (omega arith)
     go (inr h) = rw h (omega arith)
 
-typed_length_lem : (input : List ℕ) → length (typed_in input) ≡ typed_length input
+pub typed_length_lem : (input : List ℕ) → length (typed_in input) ≡ typed_length input
 typed_length_lem input = length-take-le (typed_length input) input (no_longer input)
 
-told_long_lem : (input : List ℕ) → ((reply_to input).too_long ≡ true) ↔ (longest < length (typed_in input))
+told_long_lem : (input : List ℕ) → IsErr (reply_to input) ↔ (longest < length (typed_in input))
 told_long_lem input = rw (typed_length_lem input) (go (decide (ltb longest (typed_length input))))
   where
-    go : (ltb longest (typed_length input) ≡ true) ⊎ (ltb longest (typed_length input) ≡ false) → ((reply_to input).too_long ≡ true) ↔ (longest < typed_length input)
+    go : (ltb longest (typed_length input) ≡ true) ⊎ (ltb longest (typed_length input) ≡ false) → IsErr (reply_to input) ↔ (longest < typed_length input)
     go (inl h) = (λ e. ltb-true longest (typed_length input) h, λ l. rw h)
     go (inr h) = (λ e. absurd (true≢false (sym (rw h at e))), λ l. absurd (let k = ltb-false longest (typed_length input) h in omega arith))
 

@@ -9,10 +9,11 @@ use Rattle.grammar.proofs.Examples.{examples}
 use Rattle.formula.specs.declared.Turned.{Turned}
 use Rattle.formula.proofs.Turning.{outside_14, fits}
 use Rattle.reply.specs.Line.{line_for}
-use Rattle.reply.specs.declared.Reply.{Reply}
+use Rattle.std.proofs.Common.{Result}
+use Rattle.text.specs.declared.Text.{Text}
 use Rattle.reply.specs.Tried.{said, TriedInputs}
 
-abbrev told : Turned → Reply
+abbrev told : Turned → Result Text Text
 told q = said (line_for q)
 
 pub tried_inputs : TriedInputs

@@ -1,9 +1,8 @@
 -- The line that is written for a typed rule: its postfix bytes as two lower-case hexadecimal digits each, one blank between them; or `refused` and the number.
-use Rattle.std.specs.Prelude.{cond, List, [], ◌∷◌, ℕ, ◌+◌, ◌/◌, ◌%◌, min, ltb, eqb, get_or}
+use Rattle.std.specs.Prelude.{cond, List, [], ◌∷◌, ℕ, ◌+◌, ◌/◌, ◌%◌, min, ltb, eqb, get_or, Ok, Err}
 use Rattle.text.specs.Lines.{line, numbered, refused, each}
 use Rattle.formula.specs.Answer.{room}
-use Rattle.formula.specs.declared.Answer.{Answer}
-use Rattle.formula.specs.declared.Answer.TheVariants.{Postfix, Refused}
+use Rattle.formula.specs.Numbers.{Answer, number}
 use Rattle.formula.specs.declared.Turned.{Turned}
 
 -- 0 to 9 are the bytes 48 to 57, a to f those from 97 on
@@ -21,8 +20,8 @@ abbrev pub item_at : List ℕ → ℕ → List ℕ
 item_at bytes i = item i (get_or bytes i 0)
 
 abbrev pub line_with : List ℕ → Answer → List ℕ
-line_with bytes (Postfix n) = line (each (item_at bytes) 0 (min n room))
-line_with bytes (Refused k) = numbered refused k
+line_with bytes (Ok n) = line (each (item_at bytes) 0 (min n room))
+line_with bytes (Err f) = numbered refused (number f)
 
 abbrev pub line_for : Turned → List ℕ
 line_for turned = line_with turned.bytes turned.answer

@@ -1,12 +1,12 @@
 -- Inputs, and what the program says to them. The proof is `tried_inputs`.
-use Rattle.std.specs.Prelude.{◌≡◌, false, List, ℕ}
+use Rattle.std.specs.Prelude.{◌≡◌, Result, Ok, List, ℕ}
 use Rattle.text.specs.Text.{ascii, text_of}
 use Rattle.reply.specs.Reply.{reply_to}
-use Rattle.reply.specs.declared.Reply.{Reply}
+use Rattle.text.specs.declared.Text.{Text}
 
 -- a line is said
-abbrev pub said : List ℕ → Reply
-said l = record { too_long = false; line = text_of l }
+abbrev pub said : List ℕ → Result Text Text
+said l = Ok (text_of l)
 
 pub record TriedInputs : Type 0 where
   pub request : reply_to (ascii "not a or (b and c)") ≡ said (ascii "00 80 01 02 81 82\n")

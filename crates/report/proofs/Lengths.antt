@@ -12,9 +12,10 @@ use Rattle.text.proofs.Decimals.{decimal_of_byte}
 use Rattle.text.proofs.Ends.{numbered_length, numbered_short}
 use Rattle.state.specs.declared.Entry.{Entry}
 use Rattle.judge.specs.Shown.{shown_entries}
+use Rattle.std.specs.Prelude.{Result, Ok, Err}
 use Rattle.judge.specs.declared.Judgement.{Judgement}
-use Rattle.judge.specs.declared.Judgement.TheVariants.{Consistent, Violated, Refused}
-use Rattle.report.specs.Lines.{entry_lines, run_lines, verdict_lines, violated}
+use Rattle.judge.specs.declared.Judgement.TheVariants.{Consistent, Violated}
+use Rattle.report.specs.Lines.{entry_lines, run_lines, told_lines, violated}
 
 entry_length : (leaf outcome : ℕ) → leaf < 256 → outcome < 256 → length (numbered (decimal leaf) outcome) ≤ 8
 entry_length leaf outcome h k = omega (arith, numbered_length (decimal leaf) outcome, decimal_of_byte leaf (omega arith), decimal_of_byte outcome (omega arith))
@@ -38,7 +39,7 @@ run_length (a ∷ b ∷ run) h =
     let all = one_more (eqb b 0) a b (4 * length run) (shown_entries run) (h 0 (omega arith)) (h 1 (omega arith)) rest in
     omega arith
 
-pub verdict_length : (v : Judgement) (run : List ℕ) → length run ≡ 126 → Bytes run → length (verdict_lines v run) ≤ 640
-verdict_length Consistent run e h = omega arith
-verdict_length (Violated set) run e h = rw (length-append (numbered violated set) (run_lines run)) (omega (arith, numbered_short violated set (omega arith), run_length run h))
-verdict_length (Refused n) run e h = omega (arith, numbered_short refused n (omega arith))
+pub verdict_length : (v : Result Judgement ℕ) (run : List ℕ) → length run ≡ 126 → Bytes run → length (told_lines v run) ≤ 640
+verdict_length (Ok Consistent) run e h = omega arith
+verdict_length (Ok (Violated set)) run e h = rw (length-append (numbered violated set) (run_lines run)) (omega (arith, numbered_short violated set (omega arith), run_length run h))
+verdict_length (Err n) run e h = omega (arith, numbered_short refused n (omega arith))

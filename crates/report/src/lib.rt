@@ -2,65 +2,81 @@
 // outcome; or `refused` and document 01's number for why.
 #![tactic(auto)]
 
-ghost use Rattle.std.specs.Prelude.{◌≡◌};
+ghost use Rattle.std.specs.Prelude.{◌≡◌, Ok};
 ghost use Rattle.text.specs.Decimal.{decimal};
 ghost use Rattle.text.specs.Lines.{numbered};
 ghost use Rattle.text.specs.Text.{appended, text_of};
-ghost use Rattle.report.specs.Lines.{run_lines, verdict_lines};
+ghost use Rattle.judge.specs.Verdict.{told};
+ghost use Rattle.report.specs.Lines.{run_lines, told_lines, verdict_lines};
 ghost use Rattle.report.specs.Tells.{Finds, Tells, TellsNamed};
 
-use judge::{Finding, Judgement};
+use judge::{Answer, Finding, Judgement};
 use text::Text;
 
 // Leaf and outcome on a line more.
-fn put_entry(t: Text, leaf: u8, outcome: u8) -> Text
-    ensures { result ≡ appended t (numbered (decimal leaf) outcome) }
+fn put_entry(t: &mut Text, leaf: u8, outcome: u8)
+    ensures { t.new ≡ appended t.old (numbered (decimal leaf) outcome) }
 {
-    text::end_line(text::put_decimal(t, leaf as u64), outcome as u64)
+    t.put_decimal(u64::from(leaf));
+    t.end_line(u64::from(outcome));
 }
 
-// The entries of the run, up to the first whose outcome is 0.
-fn put_run(t: Text, run: [u8; 126]) -> Text
-    ensures { result ≡ appended t (run_lines run) }
+// The entries of the run that is shown.
+fn put_run(t: &mut Text, run: &[u8; 126])
+    ensures { t.new ≡ appended t.old (run_lines run.now) }
 {
-    let mut grown = t;
-    let mut i = 0;
-    while i < 63 {
-        let leaf = run[2 * i];
-        let outcome = run[2 * i + 1];
-        if outcome == 0 {
-            return grown;
-        }
-        grown = put_entry(grown, leaf, outcome);
-        i += 1;
+    for i in 0..judge::entry_count(run) {
+        put_entry(t, run[2 * i], run[2 * i + 1]);
     }
-    grown
 }
 
-// The lines of a verdict more.
-pub fn put_verdict(t: Text, j: Judgement, run: [u8; 126]) -> Text
-    ensures { result ≡ appended t (verdict_lines j run) }
+fn put_judgement(t: &mut Text, judgement: Judgement, run: &[u8; 126])
+    ensures { t.new ≡ appended t.old (told_lines (Ok judgement) run.now) }
 {
-    match j {
-        Judgement::Consistent => text::put_line(t, b"consistent"),
-        Judgement::Violated(set) => put_run(text::put_numbered(t, b"violated", set as u64), run),
-        Judgement::Refused(number) => text::put_numbered(t, b"refused", number as u64),
+    match judgement {
+        Judgement::Consistent => t.put_line(b"consistent"),
+        Judgement::Violated(set) => {
+            t.put_numbered(b"violated", set as u64);
+            put_run(t, run);
+        }
+    }
+}
+
+// The lines of a verdict more: a refusal is told by its number.
+pub fn put_verdict(t: &mut Text, answer: Result<Judgement, u8>, run: &[u8; 126])
+    ensures { t.new ≡ appended t.old (told_lines answer run.now) }
+{
+    match answer {
+        Ok(judgement) => put_judgement(t, judgement, run),
+        Err(number) => t.put_numbered(b"refused", u64::from(number)),
+    }
+}
+
+// An answer with the number in the place of a refusal.
+fn told(answer: Answer) -> Result<Judgement, u8>
+    ensures { result ≡ told answer }
+{
+    match answer {
+        Ok(judgement) => Ok(judgement),
+        Err(refusal) => Err(refusal.number()),
     }
 }
 
 // The lines of a verdict.
-pub fn lines(j: Judgement, run: [u8; 126]) -> Text
-    ensures { result ≡ text_of (verdict_lines j run) }
+pub fn lines(answer: Answer, run: [u8; 126]) -> Text
+    ensures { result ≡ text_of (verdict_lines answer run) }
 {
-    put_verdict(text::empty(), j, run)
+    let mut t = Text::new();
+    put_verdict(&mut t, told(answer), &run);
+    t
 }
 
 // The verdict on a plan file.
 fn find(file: &[u8]) -> Finding
     ensures { Finds file.now result }
 {
-    let mut work = [0u8; 65536];
-    let mut run = [0u8; 126];
+    let mut work = [0; judge::WORK];
+    let mut run = [0; judge::RECORD];
     let judgement = judge::verdict(file, &mut work, &mut run);
     Finding { judgement, run }
 }
@@ -69,9 +85,7 @@ fn find(file: &[u8]) -> Finding
 pub fn verdict_lines(file: &[u8]) -> Text
     ensures { Tells file.now result }
 {
-    let found = find(file);
-    let run = found.run;
-    let judgement = found.judgement;
+    let Finding { judgement, run } = find(file);
     lines(judgement, run)
 }
 
@@ -79,8 +93,9 @@ pub fn verdict_lines(file: &[u8]) -> Text
 pub fn named_lines(name: &[u8], file: &[u8]) -> Text
     ensures { TellsNamed name.now file.now result }
 {
-    let found = find(file);
-    let run = found.run;
-    let judgement = found.judgement;
-    put_verdict(text::put_line(text::empty(), name), judgement, run)
+    let Finding { judgement, run } = find(file);
+    let mut t = Text::new();
+    t.put_line(name);
+    put_verdict(&mut t, told(judgement), &run);
+    t
 }

@@ -12,182 +12,119 @@
 // where bytes of a line have come before it.
 #![tactic(auto)]
 
-ghost use Rattle.std.specs.Prelude.{true, ◌≡◌};
+ghost use Rattle.std.specs.Prelude.{◌≡◌, IsOk, IfOk};
 ghost use Rattle.io.specs.Counts.{IsPrefixLen};
 ghost use Rattle.session.specs.Session.{heard_all};
 
-use job::{Answer, Job, Taken};
-use session::{Heard, Session};
+use job::{Job, Taken};
+use output::Failed;
+use session::Session;
 use std::io::Print;
 
-// The session after some input, and whether it goes on.
-#[derive(Drop)]
-pub struct Turn {
-    pub session: Session,
-    pub goes_on: bool,
-}
-
-// Says what is to be said.
-fn spoken(rt: &HostRuntime, heard: Heard) -> Turn
-    ensures { result.session ≡ heard.session }
+// Hears the bytes of one read, and answers each line that they end. Where no answer fails, each of them has been heard.
+#[tactic(auto, using(session::proofs::Hearing::heard_step, session::proofs::Hearing::heard_end_lem))]
+fn piece(rt: &HostRuntime, session: &mut Session, bytes: &[u8]) -> Result<(), Failed>
+    ensures { IsOk result → session.new ≡ heard_all session.old bytes.now }
 {
-    let say = heard.say;
-    let session = heard.session;
-    if let Err(why) = output::write(rt, session::text_of(say)) {
-        output::fail(&rt.stderr(), b"standard output", why);
-        return end(session);
+    for &b in bytes {
+        output::show(rt, &rt.stderr(), &session.hear(b).text())?;
     }
-    Turn {
-        session,
-        goes_on: true,
-    }
+    Ok(())
 }
 
-// Hears the bytes of one read, and answers each line that they end. Where the session goes on, each of them has been heard.
-fn piece(rt: &HostRuntime, session: Session, bytes: &[u8]) -> Turn
-    ensures { result.goes_on ≡ true → result.session ≡ heard_all session bytes.now }
-{
-    let mut turn = Turn {
-        session,
-        goes_on: true,
-    };
-    let mut i = 0;
-    while i < bytes.len() && turn.goes_on {
-        let s = turn.session;
-        turn = spoken(rt, session::hear(s, bytes[i]));
-        i += 1;
+// Reads and answers what comes, until the input ends or something fails. A proved loop ends, and nothing says that the input does: the reads are counted
+// up to a number that no session meets.
+fn talk(rt: &HostRuntime, session: &mut Session) -> Result<(), Failed> {
+    let mut buf = io::buffer();
+    for _ in 0..u64::MAX {
+        let n = input::read_some(&mut rt.stdin(), &mut buf).map_err(|e| output::fail(
+            &rt.stderr(),
+            b"standard input",
+            e.why,
+        ))?;
+        if n == 0 {
+            return output::show(rt, &rt.stderr(), &session.hear_end().text());
+        }
+        piece(rt, session, &buf[..n])?;
     }
-    turn
-}
-
-fn end(session: Session) -> Turn
-    ensures { result.session ≡ session }
-{
-    Turn {
-        session,
-        goes_on: false,
-    }
-}
-
-// Reads once and answers what came.
-fn round(rt: &HostRuntime, session: Session) -> Turn {
-    let mut buf = [0u8; 4096];
-    let got = input::read_some(&mut rt.stdin(), &mut buf);
-    let n = got.filled.count;
-    if let Some(why) = got.why {
-        output::fail(&rt.stderr(), b"standard input", why);
-        return end(session);
-    }
-    if n == 0 {
-        let last = spoken(rt, session::hear_end(session));
-        let s = last.session;
-        return end(s);
-    }
-    piece(rt, session, &buf[..n])
-}
-
-// A proved loop ends, and nothing says that the input does: the turns are counted down from a number that no session meets.
-fn talk(rt: &HostRuntime, session: Session) {
-    let mut turn = Turn {
-        session,
-        goes_on: true,
-    };
-    let mut turns = u64::MAX;
-    while turns > 0 && turn.goes_on {
-        let s = turn.session;
-        turn = round(rt, s);
-        turns -= 1;
-    }
+    Ok(())
 }
 
 // Tells what a start tells, and goes on with the entries unless it is refused.
-fn begin(rt: &HostRuntime, taken: Taken) {
-    let answer = taken.answer;
-    let job = taken.job;
-    if let Err(why) = output::write(rt, answers::lines(answer)) {
-        output::fail(&rt.stderr(), b"standard output", why);
-        return;
-    }
+fn begin(rt: &HostRuntime, taken: Taken) -> Result<(), Failed> {
+    let Taken { answer, job } = taken;
+    output::show(rt, &rt.stderr(), &answers::lines(answer))?;
     match answer {
-        Answer::Told(_) => talk(rt, session::next_line(job)),
-        Answer::Refused(_) => (),
+        Ok(_) => talk(rt, &mut Session::new(job)),
+        Err(_) => Ok(()),
     }
 }
 
-fn ask_for_a_plan(rt: &HostRuntime) {
+fn ask_for_a_plan(rt: &HostRuntime) -> Failed {
     let due =
         b"run: the path of a plan file is due, and for a timed job the path of a window file after it\n";
     // Where standard error takes nothing there is nobody left to tell.
-    match rt.stderr().write_all(due) {
-        Ok(()) => {}
-        Err(_) => {}
-    }
+    let _ = rt.stderr().write_all(due);
+    Failed
 }
 
-// The length of the i-th argument, the path of a file, which is put into `path`; 0 where there is none, which is told.
-fn path_at(rt: &HostRuntime, i: usize, path: &mut [u8]) -> usize
-    ensures { IsPrefixLen result path.new }
+// The length of the i-th argument, the path of a file, which is put into `path`; an empty one is none.
+fn path_at(rt: &HostRuntime, i: usize, path: &mut [u8]) -> Result<usize, Failed>
+    ensures { IfOk result (λ n. IsPrefixLen n path.new) }
 {
-    let got = input::arg_at(rt, i, path);
-    let n = got.filled.count;
-    if let Some(why) = got.why {
-        output::fail(&rt.stderr(), b"the path of a file", why);
-        return 0;
-    }
+    let n = input::arg_at(rt, i, path).map_err(|e| output::fail(
+        &rt.stderr(),
+        b"the path of a file",
+        e.why,
+    ))?;
     if n == 0 {
-        ask_for_a_plan(rt);
+        return Err(ask_for_a_plan(rt));
     }
-    n
+    Ok(n)
 }
 
 // A window file that is longer than any is refused, and so are its first MOST_WINDOWS + 1 bytes: they are no whole number of windows.
-fn open_windows(rt: &HostRuntime, file: &[u8], path: &[u8]) {
+fn open_windows(rt: &HostRuntime, file: &[u8], path: &[u8]) -> Result<(), Failed> {
     let mut windows = [0u8; job::MOST_WINDOWS + 1];
-    let got = input::fill_from(rt, path, &mut windows);
-    let n = got.filled.count;
-    if let Some(why) = got.why {
-        output::fail(&rt.stderr(), path, why);
-        return;
-    }
-    begin(rt, Job::start_timed(file, &windows[..n]));
+    let n = input::fill_from(rt, path, &mut windows).map_err(|e| output::fail(
+        &rt.stderr(),
+        path,
+        e.why,
+    ))?;
+    begin(rt, Job::start_timed(file, &windows[..n]))
 }
 
 // A job of the plan file: a timed one where a second argument is there.
-fn start(rt: &HostRuntime, file: &[u8]) {
+fn start(rt: &HostRuntime, file: &[u8]) -> Result<(), Failed> {
     if input::arg_count(rt) == 2 {
-        begin(rt, Job::start(file));
-        return;
+        return begin(rt, Job::start(file));
     }
     let mut path = io::buffer();
-    let n = path_at(rt, 2, &mut path);
-    if n == 0 {
-        return;
-    }
-    open_windows(rt, file, &path[..n]);
+    let n = path_at(rt, 2, &mut path)?;
+    open_windows(rt, file, &path[..n])
 }
 
 // A file that is longer than the largest plan file is refused by the number of its first MOST_BYTES + 1 bytes.
-fn open(rt: &HostRuntime, path: &[u8]) {
+fn open(rt: &HostRuntime, path: &[u8]) -> Result<(), Failed> {
     let mut file = [0u8; plan::MOST_BYTES + 1];
-    let got = input::fill_from(rt, path, &mut file);
-    let n = got.filled.count;
-    if let Some(why) = got.why {
-        output::fail(&rt.stderr(), path, why);
-        return;
+    let n = input::fill_from(rt, path, &mut file).map_err(|e| output::fail(
+        &rt.stderr(),
+        path,
+        e.why,
+    ))?;
+    start(rt, &file[..n])
+}
+
+fn run(rt: &HostRuntime) -> Result<(), Failed> {
+    let given = input::arg_count(rt);
+    if given != 2 && given != 3 {
+        return Err(ask_for_a_plan(rt));
     }
-    start(rt, &file[..n]);
+    let mut path = io::buffer();
+    let n = path_at(rt, 1, &mut path)?;
+    open(rt, &path[..n])
 }
 
 fn main(rt: HostRuntime) {
-    let given = input::arg_count(&rt);
-    if given < 2 || given > 3 {
-        ask_for_a_plan(&rt);
-        return;
-    }
-    let mut path = io::buffer();
-    let n = path_at(&rt, 1, &mut path);
-    if n == 0 {
-        return;
-    }
-    open(&rt, &path[..n]);
+    let _ = run(&rt);
 }

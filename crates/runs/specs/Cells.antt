@@ -17,6 +17,10 @@ abbrev pub ending : Status → Ended
 ending ok = Succeeded
 ending fail = Failed
 
+-- By the byte of an entry or of a table of outcomes: 0 not run, 1 finished, any other failed.
+abbrev pub ended_of : ℕ → Ended
+ended_of x = cond (eqb x 0) Open (cond (eqb x 1) Succeeded Failed)
+
 -- It has ended, and with ✓; with ×.
 abbrev pub is_succeeded : Ended → Bool
 is_succeeded Open = false

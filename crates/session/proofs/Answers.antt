@@ -1,5 +1,6 @@
 -- What is said to a line, by which text it is: it is read as what it is the text of, and the runner is asked accordingly.
 use mathlib.Core.Path.{◌≡◌, refl}
+use Rattle.std.specs.Prelude.{Option, Some, None}
 use mathlib.Core.List.{List}
 use Prim.Native.Nat.{ℕ}
 use Rattle.job.specs.declared.Job.{Job}
@@ -8,18 +9,18 @@ use Rattle.session.specs.Line.{fresh_line, line_of, entry_in}
 use Rattle.session.specs.Entries.{EntryText, TimedText}
 use Rattle.session.specs.Session.{answered_to}
 use Rattle.session.specs.Answers.{SaidNoEntry, AnswersEntries}
-use Rattle.session.specs.declared.line.Found.{Found}
-use Rattle.session.specs.declared.line.Found.TheVariants as found
+use Rattle.session.specs.declared.line.Given.{Given}
+use Rattle.session.specs.declared.line.Given.TheVariants as given
 use Rattle.session.proofs.Entries.{reads_entries}
 
 other_line : (j : Job) (line : List ℕ) → ((e : Entry) → EntryText e line → ⊥) → ((e : Entry) (m : ℕ) → TimedText e m line → ⊥)
     → SaidNoEntry j (answered_to j (entry_in (line_of fresh_line line)))
 other_line j line two three = go (entry_in (line_of fresh_line line)) refl
   where
-    go : (f : Found) → entry_in (line_of fresh_line line) ≡ f → SaidNoEntry j (answered_to j f)
-    go (found.Entry e) h = absurd (two e (reads_entries.only line e h))
-    go (found.Timed e m) h = absurd (three e m (reads_entries.only_timed line e m h))
-    go found.NotAnEntry h = (refl, refl)
+    go : (f : Option Given) → entry_in (line_of fresh_line line) ≡ f → SaidNoEntry j (answered_to j f)
+    go (Some (given.Entry e)) h = absurd (two e (reads_entries.only line e h))
+    go (Some (given.Timed e m)) h = absurd (three e m (reads_entries.only_timed line e m h))
+    go None h = (refl, refl)
 
 pub answers_entries : AnswersEntries
 answers_entries = record {

@@ -10,7 +10,9 @@ use lib.ListN.{length, get_or, drop, drop_of_length-le}
 use lib.Seq.{drop-cons}
 use borrow.Author.Tests.{eqb-true}
 use Rattle.job.specs.declared.Job.{Job}
-use Rattle.session.specs.Line.{largest, digit_after, fresh_line, line_after, line_of, begun_with, begun, entry_in}
+use Rattle.session.specs.Line.{largest, digit_after, fresh_line, after_in, line_after, line_of, begun_with, begun, entry_in}
+use Rattle.session.specs.declared.line.Part.{Part}
+use Rattle.session.specs.declared.line.Part.TheVariants.{Leaf, Outcome, Minute}
 use Rattle.session.specs.Session.{next_line, answered_to, heard_byte, heard_all, heard_end, OneLine, AnswersLines}
 use Rattle.session.specs.declared.line.Number.{Number}
 use Rattle.session.specs.declared.line.Number.TheVariants.{Unwritten, Is, Wrong}
@@ -33,10 +35,15 @@ heard_line j l [] one = refl
 heard_line j l (b ∷ bs) one = rw one.0 (heard_line j (line_after l b) bs one.1)
 
 -- a line has begun once a byte of it has come
-begun_blank : (n : Number) (blanks : ℕ) → ltb 0 blanks ≡ true → begun_with n blanks ≡ true
-begun_blank Unwritten blanks h = h
-begun_blank (Is n) blanks h = refl
-begun_blank Wrong blanks h = refl
+begun_outcome : (n : Number) → begun_with n Outcome ≡ true
+begun_outcome Unwritten = refl
+begun_outcome (Is n) = refl
+begun_outcome Wrong = refl
+
+begun_minute : (n : Number) → begun_with n Minute ≡ true
+begun_minute Unwritten = refl
+begun_minute (Is n) = refl
+begun_minute Wrong = refl
 
 -- what holds of both sides of a choice holds of it
 either : {A : Type 0} (F : A → Type 0) (t : Bool) {x y : A} → F x → F y → F (cond t x y)
@@ -44,7 +51,7 @@ either F true p q = p
 either F false p q = q
 
 abbrev BegunNumber : Number → Type 0
-BegunNumber n = begun_with n 0 ≡ true
+BegunNumber n = begun_with n Leaf ≡ true
 
 begun_digit : (n : Number) (b : ℕ) → BegunNumber (digit_after n b)
 begun_digit Unwritten b = either BegunNumber (ltb b 48) refl (either BegunNumber (ltb 57 b) refl refl)
@@ -57,11 +64,13 @@ begun_digit Wrong b = refl
 abbrev Begun : Line → Type 0
 Begun l = begun l ≡ true
 
+begun_in : (part : Part) (l : Line) (b : ℕ) → Begun (after_in part l b)
+begun_in Leaf l b = either Begun (eqb b 32) (begun_outcome l.leaf) (begun_digit l.leaf b)
+begun_in Outcome l b = either Begun (eqb b 32) (begun_minute l.leaf) (begun_outcome l.leaf)
+begun_in Minute l b = begun_minute l.leaf
+
 begun_after : (l : Line) (b : ℕ) → Begun (line_after l b)
-begun_after l b =
-    either Begun (eqb l.blanks 0) (either Begun (eqb b 32) (begun_blank l.leaf 1 refl) (begun_digit l.leaf b))
-    (either Begun (eqb l.blanks 1) (either Begun (eqb b 32) (begun_blank l.leaf 2 refl) (begun_blank l.leaf 1 refl))
-    (begun_blank l.leaf 2 refl))
+begun_after l b = begun_in l.part l b
 
 begun_line : (l : Line) (bs : List ℕ) → begun l ≡ true → begun (line_of l bs) ≡ true
 unfolding line_of

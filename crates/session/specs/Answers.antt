@@ -8,8 +8,7 @@ use Rattle.job.specs.declared.Taken.{Taken}
 use Rattle.state.specs.declared.Entry.{Entry}
 use Rattle.session.specs.Line.{fresh_line, line_of, entry_in}
 use Rattle.session.specs.Entries.{EntryText, TimedText}
-use Rattle.session.specs.Session.{next_line, answered_to}
-use Rattle.session.specs.declared.Heard.{Heard}
+use Rattle.session.specs.Session.{Heard, next_line, answered_to}
 use Rattle.session.specs.declared.Say.TheVariants.{NotAnEntry, Answer}
 
 -- the runner's answer is said, and the job that it hands back goes on

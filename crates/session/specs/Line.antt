@@ -1,12 +1,15 @@
 -- Which lines are entries: leaf and outcome in decimal with one blank between them, each a number up to 255. Which are timed entries: leaf,
 -- outcome and minute, one blank between each two, the minute a number up to 4294967295. A number is its digits alone, with no zero before
 -- another digit. The definitions read a line byte by byte; Entries.antt says which lines those are that they read as one or the other.
-use Rattle.std.specs.Prelude.{Bool, true, cond, List, [], ◌∷◌, ℕ, ◌+◌, ◌-◌, ◌*◌, ltb, eqb}
+use Rattle.std.specs.Prelude.{Bool, true, false, cond, List, [], ◌∷◌, ℕ, ◌+◌, ◌-◌, ◌*◌, ltb, eqb, Option, Some, None}
 use Rattle.session.specs.declared.line.Number.{Number}
 use Rattle.session.specs.declared.line.Number.TheVariants.{Unwritten, Is, Wrong}
+use Rattle.session.specs.declared.line.Part.{Part}
+use Rattle.session.specs.declared.line.Part.TheVariants.{Leaf, Outcome, Minute}
 use Rattle.session.specs.declared.line.Line.{Line}
-use Rattle.session.specs.declared.line.Found.{Found}
-use Rattle.session.specs.declared.line.Found.TheVariants as found
+use Rattle.state.specs.declared.Entry.{Entry}
+use Rattle.session.specs.declared.line.Given.{Given}
+use Rattle.session.specs.declared.line.Given.TheVariants as given
 
 -- The largest number that is read.
 abbrev pub largest : ℕ
@@ -22,18 +25,20 @@ digit_after Wrong b = Wrong
 
 -- A line of which no byte has come.
 abbrev pub fresh_line : Line
-fresh_line = record { leaf = Unwritten; outcome = Unwritten; minute = Unwritten; blanks = 0 }
+fresh_line = record { leaf = Unwritten; outcome = Unwritten; minute = Unwritten; part = Leaf }
 
 -- A line after one byte more: the first blank (32) parts the leaf from the outcome, the second the outcome from the minute.
+abbrev pub after_in : Part → Line → ℕ → Line
+after_in Leaf l b =
+    cond (eqb b 32) (record { leaf = l.leaf; outcome = l.outcome; minute = l.minute; part = Outcome })
+    (record { leaf = digit_after l.leaf b; outcome = l.outcome; minute = l.minute; part = Leaf })
+after_in Outcome l b =
+    cond (eqb b 32) (record { leaf = l.leaf; outcome = l.outcome; minute = l.minute; part = Minute })
+    (record { leaf = l.leaf; outcome = digit_after l.outcome b; minute = l.minute; part = Outcome })
+after_in Minute l b = record { leaf = l.leaf; outcome = l.outcome; minute = digit_after l.minute b; part = Minute }
+
 abbrev pub line_after : Line → ℕ → Line
-line_after l b =
-    cond (eqb l.blanks 0)
-    (cond (eqb b 32) (record { leaf = l.leaf; outcome = l.outcome; minute = l.minute; blanks = 1 })
-    (record { leaf = digit_after l.leaf b; outcome = l.outcome; minute = l.minute; blanks = 0 }))
-    (cond (eqb l.blanks 1)
-    (cond (eqb b 32) (record { leaf = l.leaf; outcome = l.outcome; minute = l.minute; blanks = 2 })
-    (record { leaf = l.leaf; outcome = digit_after l.outcome b; minute = l.minute; blanks = 1 }))
-    (record { leaf = l.leaf; outcome = l.outcome; minute = digit_after l.minute b; blanks = 2 }))
+line_after l b = after_in l.part l b
 
 -- A line after some bytes more.
 unfoldable pub line_of : Line → List ℕ → Line
@@ -41,33 +46,55 @@ line_of l [] = l
 line_of l (b ∷ bs) = line_of (line_after l b) bs
 
 -- Has a byte of the line come?
-abbrev pub begun_with : Number → ℕ → Bool
-begun_with Unwritten blanks = ltb 0 blanks
-begun_with (Is n) blanks = true
-begun_with Wrong blanks = true
+abbrev pub begun_with : Number → Part → Bool
+begun_with Unwritten Leaf = false
+begun_with Unwritten Outcome = true
+begun_with Unwritten Minute = true
+begun_with (Is n) part = true
+begun_with Wrong part = true
 
 abbrev pub begun : Line → Bool
-begun l = begun_with l.leaf l.blanks
+begun l = begun_with l.leaf l.part
+
+-- The number that all the digits are the text of, and the same where it fits a byte.
+abbrev pub value_of : Number → Option ℕ
+value_of Unwritten = None
+value_of (Is n) = Some n
+value_of Wrong = None
+
+abbrev pub byte_of : Number → Option ℕ
+byte_of Unwritten = None
+byte_of (Is n) = cond (ltb 255 n) None (Some n)
+byte_of Wrong = None
 
 -- The entry of two numbers that fit a byte each.
-abbrev pub entry_with : ℕ → ℕ → Found
-entry_with n o = cond (ltb 255 n) found.NotAnEntry (cond (ltb 255 o) found.NotAnEntry (found.Entry (record { leaf = n; outcome = o })))
+abbrev pub entry_with : ℕ → ℕ → Option Entry
+entry_with n o = cond (ltb 255 n) None (cond (ltb 255 o) None (Some (record { leaf = n; outcome = o })))
 
-abbrev pub entry_from : Number → Number → Found
+abbrev pub entry_from : Number → Number → Option Entry
 entry_from (Is n) (Is o) = entry_with n o
-entry_from (Is n) Unwritten = found.NotAnEntry
-entry_from (Is n) Wrong = found.NotAnEntry
-entry_from Unwritten o = found.NotAnEntry
-entry_from Wrong o = found.NotAnEntry
+entry_from (Is n) Unwritten = None
+entry_from (Is n) Wrong = None
+entry_from Unwritten o = None
+entry_from Wrong o = None
 
--- An entry with its minute.
-abbrev pub timed_from : Found → Number → Found
-timed_from (found.Entry e) (Is m) = found.Timed e m
-timed_from (found.Entry e) Unwritten = found.NotAnEntry
-timed_from (found.Entry e) Wrong = found.NotAnEntry
-timed_from (found.Timed e n) m = found.NotAnEntry
-timed_from found.NotAnEntry m = found.NotAnEntry
+-- The entry alone.
+abbrev pub untimed_from : Option Entry → Option Given
+untimed_from (Some e) = Some (given.Entry e)
+untimed_from None = None
 
--- The entry that a line is, once all its bytes have come: a timed one where two blanks have.
-abbrev pub entry_in : Line → Found
-entry_in l = cond (ltb l.blanks 2) (entry_from l.leaf l.outcome) (timed_from (entry_from l.leaf l.outcome) l.minute)
+-- The entry with its minute.
+abbrev pub timed_from : Option Entry → Number → Option Given
+timed_from (Some e) (Is m) = Some (given.Timed e m)
+timed_from (Some e) Unwritten = None
+timed_from (Some e) Wrong = None
+timed_from None m = None
+
+-- What a line gives, once all its bytes have come: an entry, and a timed one where two blanks have parted its numbers.
+abbrev pub given_in : Part → Line → Option Given
+given_in Leaf l = untimed_from (entry_from l.leaf l.outcome)
+given_in Outcome l = untimed_from (entry_from l.leaf l.outcome)
+given_in Minute l = timed_from (entry_from l.leaf l.outcome) l.minute
+
+abbrev pub entry_in : Line → Option Given
+entry_in l = given_in l.part l

@@ -1,20 +1,24 @@
 -- What is said to the bytes of the input, one after the other: a newline ends a line, and each line is answered once, in its turn.
 -- The answer to an entry is the runner's own, and the job that it hands back goes on.
-use Rattle.std.specs.Prelude.{false, cond, List, [], ◌∷◌, ◌++◌, ◌⊎◌, ◌≡◌, ℕ, eqb}
+use Rattle.std.specs.Prelude.{false, cond, List, [], ◌∷◌, ◌++◌, ◌⊎◌, ◌≡◌, ℕ, eqb, Option, Some, None}
 use Rattle.job.specs.Job.{take_of}
 use Rattle.job.specs.Timed.{take_timed_of}
 use Rattle.state.specs.declared.Entry.{Entry}
 use Rattle.job.specs.declared.Job.{Job}
 use Rattle.job.specs.declared.Taken.{Taken}
 use Rattle.session.specs.Line.{fresh_line, line_after, line_of, begun, entry_in}
-use Rattle.session.specs.declared.line.Found.{Found}
-use Rattle.session.specs.declared.line.Found.TheVariants as found
+use Rattle.session.specs.declared.line.Given.{Given}
+use Rattle.session.specs.declared.line.Given.TheVariants as given
 use Rattle.session.specs.declared.Session.{Session}
 use Rattle.text.specs.Text.{ascii}
 use Rattle.answers.specs.Lines.{answer_lines}
 use Rattle.session.specs.declared.Say.{Say}
 use Rattle.session.specs.declared.Say.TheVariants.{Nothing, NotAnEntry, Answer}
-use Rattle.session.specs.declared.Heard.{Heard}
+
+-- What is to be said after a byte, and the session that goes on.
+pub record Heard : Type 0 where
+  pub say : Say
+  pub session : Session
 
 -- The session at the start of a line.
 abbrev pub next_line : Job → Session
@@ -39,10 +43,10 @@ heard_entry j e = cond j.timed (heard_no_entry j) (heard_answer (take_of j e))
 abbrev pub heard_timed : Job → Entry → ℕ → Heard
 heard_timed j e m = cond j.timed (heard_answer (take_timed_of j e m)) (heard_no_entry j)
 
-abbrev pub answered_to : Job → Found → Heard
-answered_to j (found.Entry e) = heard_entry j e
-answered_to j (found.Timed e m) = heard_timed j e m
-answered_to j found.NotAnEntry = heard_no_entry j
+abbrev pub answered_to : Job → Option Given → Heard
+answered_to j (Some (given.Entry e)) = heard_entry j e
+answered_to j (Some (given.Timed e m)) = heard_timed j e m
+answered_to j None = heard_no_entry j
 
 -- The line that has come is whole.
 abbrev pub answered : Session → Heard

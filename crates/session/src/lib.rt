@@ -2,12 +2,9 @@
 #![tactic(auto)]
 
 ghost use Rattle.std.specs.Prelude.{◌≡◌};
-ghost use Rattle.text.specs.Text.{text_of};
-ghost use Rattle.session.specs.Session.{next_line, silent, heard_no_entry, heard_answer, heard_entry, heard_timed, answered, heard_byte, heard_end, say_lines};
 
-use job::{Answer, Job, Taken};
-use line::{Found, Line};
-use state::Entry;
+use job::{Answer, Job};
+use line::{Given, Line};
 use text::Text;
 
 pub mod line;
@@ -25,120 +22,76 @@ pub enum Say {
     Answer(Answer),
 }
 
-#[derive(Drop)]
-pub struct Heard {
-    pub say: Say,
-    pub session: Session,
-}
+impl Session {
+    ghost use Rattle.session.specs.Session.{next_line, answered, heard_byte, heard_end};
 
-// The session at the start of a line.
-pub fn next_line(job: Job) -> Session
-    ensures { result ≡ next_line job }
-{
-    Session {
-        job,
-        line: line::fresh(),
+    // The session at the start of a line.
+    pub fn new(job: Job) -> Session
+        ensures { result ≡ next_line job }
+    {
+        Session {
+            job,
+            line: Line::new(),
+        }
+    }
+
+    // The line that has come is whole: an entry without a minute goes to an untimed job, and one with a minute to a timed one. The runner answers, and the
+    // job that it hands back goes on.
+    fn answer(&mut self) -> Say
+        ensures { answered self.old ≡ record { say = result; session = self.new } }
+    {
+        let given = self.line.given();
+        self.line = Line::new();
+        let taken = match given {
+            Some(Given::Entry(e)) if !self.job.timed => self.job.take(e),
+            Some(Given::Timed { entry, minute }) if self.job.timed => {
+                self.job.take_at(entry, minute)
+            }
+            _ => return Say::NotAnEntry,
+        };
+        self.job = taken.job;
+        Say::Answer(taken.answer)
+    }
+
+    // One byte of input.
+    pub fn hear(&mut self, b: u8) -> Say
+        ensures { heard_byte self.old b ≡ record { say = result; session = self.new } }
+    {
+        if b == b'\n' {
+            return self.answer();
+        }
+        self.line.push(b);
+        Say::Nothing
+    }
+
+    // The end of the input: it ends a line of which a byte has come.
+    pub fn hear_end(&mut self) -> Say
+        ensures { heard_end self.old ≡ record { say = result; session = self.new } }
+    {
+        if self.line.has_begun() {
+            self.answer()
+        } else {
+            Say::Nothing
+        }
     }
 }
 
-// Nothing is to be said.
-fn keep(session: Session) -> Heard
-    ensures { result ≡ silent session }
-{
-    Heard {
-        say: Say::Nothing,
-        session,
-    }
-}
+impl Say {
+    ghost use Rattle.text.specs.Text.{text_of};
+    ghost use Rattle.session.specs.Session.{say_lines};
 
-// The line is no entry: the job stays as it is.
-fn not_an_entry(job: Job) -> Heard
-    ensures { result ≡ heard_no_entry job }
-{
-    Heard {
-        say: Say::NotAnEntry,
-        session: next_line(job),
-    }
-}
-
-// The runner has answered: the job that it hands back goes on.
-fn answered(taken: Taken) -> Heard
-    ensures { result ≡ heard_answer taken }
-{
-    let answer = taken.answer;
-    let next = taken.job;
-    Heard {
-        say: Say::Answer(answer),
-        session: next_line(next),
-    }
-}
-
-// An entry without a minute goes to an untimed job.
-fn hear_entry(job: Job, e: Entry) -> Heard
-    ensures { result ≡ heard_entry job e }
-{
-    if job.timed {
-        return not_an_entry(job);
-    }
-    answered(job.take(e))
-}
-
-// An entry with a minute goes to a timed job.
-fn hear_timed(job: Job, e: Entry, minute: u32) -> Heard
-    ensures { result ≡ heard_timed job e minute }
-{
-    if job.timed {
-        return answered(job.take_at(e, minute));
-    }
-    not_an_entry(job)
-}
-
-// The line that has come is whole.
-fn answer(session: Session) -> Heard
-    ensures { result ≡ answered session }
-{
-    let job = session.job;
-    let line = session.line;
-    match line::entry_of(line) {
-        Found::Entry(e) => hear_entry(job, e),
-        Found::Timed { entry, minute } => hear_timed(job, entry, minute),
-        Found::NotAnEntry => not_an_entry(job),
-    }
-}
-
-// One byte of input.
-pub fn hear(session: Session, b: u8) -> Heard
-    ensures { result ≡ heard_byte session b }
-{
-    if b == 10 {
-        return answer(session);
-    }
-    let job = session.job;
-    let line = session.line;
-    keep(Session {
-        job,
-        line: line::after(line, b),
-    })
-}
-
-// The end of the input: it ends a line of which a byte has come.
-pub fn hear_end(session: Session) -> Heard
-    ensures { result ≡ heard_end session }
-{
-    let line = session.line;
-    if line::has_begun(line) {
-        return answer(session);
-    }
-    keep(session)
-}
-
-// What is written, as a text.
-pub fn text_of(say: Say) -> Text
-    ensures { result ≡ text_of (say_lines say) }
-{
-    match say {
-        Say::Nothing => text::empty(),
-        Say::NotAnEntry => text::put(text::empty(), b"not an entry\n"),
-        Say::Answer(a) => answers::lines(a),
+    // What is written, as a text.
+    pub fn text(self) -> Text
+        ensures { result ≡ text_of (say_lines self) }
+    {
+        match self {
+            Say::Nothing => Text::new(),
+            Say::NotAnEntry => {
+                let mut t = Text::new();
+                t.put(b"not an entry\n");
+                t
+            }
+            Say::Answer(a) => answers::lines(a),
+        }
     }
 }

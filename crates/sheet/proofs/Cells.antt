@@ -1,37 +1,32 @@
 -- The entries of a run in a row, two bytes after two bytes.
 use mathlib.Core.Path.{◌≡◌, sym, ap, ◌∙◌}
 use mathlib.Core.List.{List, [], ◌∷◌, ◌++◌, append_assoc}
-use Prim.Native.Nat.{ℕ, ◌+◌, ◌*◌, ◌≤◌, ◌<◌}
+use Prim.Native.Nat.{ℕ, suc, ◌+◌, ◌*◌, ◌≤◌, ◌<◌}
 use lib.ListN.{length, get_or, drop, drop_of_length-le}
-use borrow.Author.Tests.{eq-eqb, ne_eqb}
+use Rattle.std.specs.Prelude.{Ok, Err}
 use Rattle.text.specs.Text.{pushed, appended}
 use Rattle.text.specs.declared.Text.{Text}
-use Rattle.text.proofs.Ends.{appended_first}
+use Rattle.text.specs.Decimal.{decimal}
+use Rattle.text.specs.Lines.{line, refused}
+use Rattle.text.proofs.Ends.{appended_first, lined}
 use Rattle.text.proofs.Texts.{appended_both, appended_one}
 use Rattle.judge.specs.Shown.{shown_entries}
-use Rattle.judge.proofs.Entries.{entry_off}
-use Rattle.sheet.specs.Row.{cell, cells}
-
--- what is left of the cells once i entries are put
-abbrev pub cells_from : ℕ → List ℕ → List ℕ
-cells_from i run = cells i (shown_entries (drop (2 * i) run))
+use Rattle.judge.proofs.Entries.{entry_shown}
+use Rattle.judge.specs.declared.Judgement.TheVariants.{Violated}
+use Rattle.report.specs.Lines.{violated}
+use Rattle.sheet.specs.Row.{cell, cells, columns, row_of}
 
 module _ (t : Text) (run : List ℕ) (i : ℕ) where
-  -- past the end there is nothing to put
-  pub cells_over : length run ≤ 2 * i → appended t (cells_from i run) ≡ t
-  unfolding shown_entries cells appended
-  cells_over h = rw (drop_of_length-le run h)
+  -- after the last entry there is nothing to put
+  pub cells_over : length (shown_entries run) ≤ i → appended t (cells i (drop i (shown_entries run))) ≡ t
+  unfolding cells appended
+  cells_over h = rw (drop_of_length-le (shown_entries run) h)
 
-  module _ (h : 2 * i + 1 < length run) where
-    -- nor from an outcome of 0 on
-    pub cells_stop : get_or run (2 * i + 1) 0 ≡ 0 → appended t (cells_from i run) ≡ t
-    unfolding shown_entries cells appended
-    cells_stop z = rw (entry_off run i h, eq-eqb _ _ z)
-
-    -- any other entry has its cell, before those of the rest
-    pub cells_go : (get_or run (2 * i + 1) 0 ≡ 0 → ⊥) → appended t (cells_from i run) ≡ appended (appended t (cell i (get_or run (2 * i) 0) (get_or run (2 * i + 1) 0))) (cells_from (i + 1) run)
-    unfolding shown_entries cells
-    cells_go z = rw (entry_off run i h, ne_eqb _ _ z) (appended_both t _ (cells_from (i + 1) run))
+  -- an entry has its cell, before those of the rest
+  pub cells_go : i < length (shown_entries run)
+      → appended t (cells i (drop i (shown_entries run))) ≡ appended (appended t (cell i (get_or run (2 * i) 0) (get_or run (2 * i + 1) 0))) (cells (i + 1) (drop (suc i) (shown_entries run)))
+  unfolding cells
+  cells_go h = rw (entry_shown run i h) (appended_both t _ (cells (i + 1) (drop (suc i) (shown_entries run))))
 
 -- columns of a row
 pub put_columns : (t : Text) (word number : List ℕ) → pushed (appended (appended t word) number) 9 ≡ appended t (word ++ (number ++ (9 ∷ [])))
@@ -47,3 +42,10 @@ columns_then t word number rest =
 pub cell_parts : (t : Text) (before leaf outcome : List ℕ) → appended t (before ++ (leaf ++ (58 ∷ outcome))) ≡ appended (pushed (appended (appended t before) leaf) 58) outcome
 cell_parts t before leaf outcome =
     appended_both t before (leaf ++ (58 ∷ outcome)) ∙ appended_both (appended t before) leaf (58 ∷ outcome) ∙ sym (appended_first (appended (appended t before) leaf) 58 outcome)
+
+-- a row is put
+pub violated_row : (t : Text) (set : ℕ) (run : List ℕ) → pushed (appended (appended t (columns (9 ∷ (violated ++ (9 ∷ []))) set)) (cells 0 (shown_entries run))) 10 ≡ appended t (row_of (Ok (Violated set)) run)
+violated_row t set run = lined _ (cells 0 (shown_entries run)) ∙ columns_then t (9 ∷ (violated ++ (9 ∷ []))) (decimal set) (line (cells 0 (shown_entries run)))
+
+pub refused_row : (t : Text) (n : ℕ) (run : List ℕ) → pushed (appended t (columns (9 ∷ (refused ++ (9 ∷ []))) n)) 10 ≡ appended t (row_of (Err n) run)
+refused_row t n run = sym (appended_one _ 10) ∙ columns_then t (9 ∷ (refused ++ (9 ∷ []))) (decimal n) (10 ∷ [])

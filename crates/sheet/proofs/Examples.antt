@@ -4,11 +4,10 @@ use Rattle.text.specs.Decimal.{digits}
 use Rattle.judge.specs.Shown.{shown_entries}
 use Rattle.report.specs.Lines.{entry_lines}
 use Rattle.sheet.specs.Row.{cells}
-use Rattle.sheet.specs.Form.{same_word}
 use Rattle.sheet.specs.Examples.{Examples}
 
 pub examples : Examples
-unfolding digits shown_entries entry_lines cells same_word
+unfolding digits shown_entries entry_lines cells
 examples = record {
   violated_lines = refl;
   consistent_lines = refl;

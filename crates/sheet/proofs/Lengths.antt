@@ -16,9 +16,10 @@ use Rattle.text.proofs.Decimals.{decimal_of_byte, decimal_length}
 use Rattle.text.proofs.Ends.{numbered_length, numbered_short}
 use Rattle.state.specs.declared.Entry.{Entry}
 use Rattle.judge.specs.Shown.{shown_entries}
+use Rattle.std.specs.Prelude.{Result, Ok, Err}
 use Rattle.judge.specs.declared.Judgement.{Judgement}
-use Rattle.judge.specs.declared.Judgement.TheVariants.{Consistent, Violated, Refused}
-use Rattle.report.specs.Lines.{entry_lines, run_lines, verdict_lines, violated}
+use Rattle.judge.specs.declared.Judgement.TheVariants.{Consistent, Violated}
+use Rattle.report.specs.Lines.{entry_lines, run_lines, told_lines, violated}
 use Rattle.report.proofs.Lengths.{Bytes}
 use Rattle.place.specs.Place.{place_size}
 use Rattle.sheet.specs.Said.{judgement_in, run_in}
@@ -61,29 +62,29 @@ lines_length i (e ∷ es) =
     rw (length-append (numbered (decimal e.leaf) e.outcome) (entry_lines es), length-append (cell (i + 1) e.leaf e.outcome) (cells (i + 1 + 1) es))
     (omega (arith, line_length i e.leaf e.outcome, lines_length (i + 1) es))
 
-verdict_length : (v : Judgement) (run : List ℕ) → length run ≡ 126 → Bytes run → length (verdict_lines v run) ≤ 536
-verdict_length Consistent run e h = omega arith
-verdict_length (Violated set) run e h =
+verdict_length : (v : Result Judgement ℕ) (run : List ℕ) → length run ≡ 126 → Bytes run → length (told_lines v run) ≤ 536
+verdict_length (Ok Consistent) run e h = omega arith
+verdict_length (Ok (Violated set)) run e h =
     rw (length-append (numbered violated set) (run_lines run))
     (omega (arith, numbered_short violated set (omega arith), lines_length 0 (shown_entries run), cells_length run h 1))
-verdict_length (Refused n) run e h = omega (arith, numbered_short refused n (omega arith))
+verdict_length (Err n) run e h = omega (arith, numbered_short refused n (omega arith))
 
-entries_length : (v : Judgement) (run : List ℕ) → length run ≡ 126 → Bytes run → length (entries v run) ≤ 504
-entries_length Consistent run e h = omega arith
-entries_length (Violated set) run e h = omega (arith, cells_length run h 0)
-entries_length (Refused n) run e h = omega arith
+entries_length : (v : Result Judgement ℕ) (run : List ℕ) → length run ≡ 126 → Bytes run → length (entries v run) ≤ 504
+entries_length (Ok Consistent) run e h = omega arith
+entries_length (Ok (Violated set)) run e h = omega (arith, cells_length run h 0)
+entries_length (Err n) run e h = omega arith
 
-word_length : (v : Judgement) → length (word v) ≤ 10
-word_length Consistent = omega arith
-word_length (Violated set) = omega arith
-word_length (Refused n) = omega arith
+word_length : (v : Result Judgement ℕ) → length (word v) ≤ 10
+word_length (Ok Consistent) = omega arith
+word_length (Ok (Violated set)) = omega arith
+word_length (Err n) = omega arith
 
-number_length : (v : Judgement) → length (number v) ≤ 20
-number_length Consistent = omega arith
-number_length (Violated set) = decimal_length set
-number_length (Refused n) = decimal_length n
+number_length : (v : Result Judgement ℕ) → length (number v) ≤ 20
+number_length (Ok Consistent) = omega arith
+number_length (Ok (Violated set)) = decimal_length set
+number_length (Err n) = decimal_length n
 
-row_length : (v : Judgement) (run : List ℕ) → length run ≡ 126 → Bytes run → length (row_of v run) ≤ 640
+row_length : (v : Result Judgement ℕ) (run : List ℕ) → length run ≡ 126 → Bytes run → length (row_of v run) ≤ 640
 row_length v run e h =
     rw (length-append (word v) (9 ∷ (number v ++ (9 ∷ line (entries v run)))), length-append (number v) (9 ∷ line (entries v run)), length-append (entries v run) (10 ∷ []))
     (omega (arith, word_length v, number_length v, entries_length v run e h))
@@ -100,7 +101,7 @@ module _ (p : List ℕ) (h : place_size ≤ length p) (b : Bytes p) where
 
   pub plan_room : (i : ℕ) → length (plan_lines i p) ≤ 640
   plan_room i =
-      rw (length-append (plan_line i) (verdict_lines (judgement_in p) (run_in p)))
+      rw (length-append (plan_line i) (told_lines (judgement_in p) (run_in p)))
       (omega (arith, numbered_short (ascii "plan") i (omega arith), verdict_length (judgement_in p) (run_in p) run_long run_bytes))
 
   pub row_room : length (row_after_name p) ≤ 640

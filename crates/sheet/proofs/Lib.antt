@@ -1,9 +1,6 @@
-pub mod Numbers
 pub mod Says
 pub mod Cells
 pub mod Lengths
-pub mod Cleaning
-pub mod Words
 pub mod Tells
 pub mod Room
 pub mod Examples

@@ -6,12 +6,11 @@ use native.Mathlib.Omega.{arith}
 use lib.ListN.{length}
 use Rattle.place.specs.Place.{place_size}
 use Rattle.handed.specs.Files.{most_files}
-use Rattle.class.specs.Outcome.{AllFilled, Outcome}
-use Rattle.class.specs.declared.Answer.{Answer}
-use Rattle.class.specs.declared.Answer.TheVariants.{Filled}
+use Rattle.class.specs.Outcome.{Answer, AllFilled, Outcome}
+use Rattle.std.specs.Prelude.{Ok}
 use Rattle.class.proofs.Promises.{promised}
 
-pub filled_room : (s work work' old new : List ℕ) (a : Answer) (n : ℕ) → Outcome s work work' old new a → a ≡ Filled n → (n ≤ most_files) × (place_size * n ≤ length new)
+pub filled_room : (s work work' old new : List ℕ) (a : Answer) (n : ℕ) → Outcome s work work' old new a → a ≡ Ok n → (n ≤ most_files) × (place_size * n ≤ length new)
 filled_room s work work' old new a n x e =
     let y : AllFilled s work work' old new n = subst (λ (b : Answer). Outcome s work work' old new b) e x in
     let long = (promised s work work' old new a x).long in

@@ -16,22 +16,20 @@ ghost use Rattle.sheet.specs.Row.{row_after_name};
 pub use form::{Form, first_file, form_asked};
 use judge::Judgement;
 pub use names::clean;
+use place::PLACE;
 pub use rows::heading;
 use text::Text;
 
-// The verdict that a place holds.
-fn judgement_in(place: &[u8]) -> Judgement
+// The verdict that a place holds. The number of a refusal is a byte of it, and may be any.
+fn judgement_in(place: &[u8]) -> Result<Judgement, u8>
     requires { place_size ≤ length place.now }
     ensures { result ≡ judgement_in place.now }
 {
-    let kind = place[0];
-    if kind == 0 {
-        return Judgement::Consistent;
+    match place[0] {
+        0 => Ok(Judgement::Consistent),
+        1 => Ok(Judgement::Violated(blocks::number_at(place, 1))),
+        _ => Err(place[1]),
     }
-    if kind == 1 {
-        return Judgement::Violated(blocks::number_at(place, 1));
-    }
-    Judgement::Refused(place[1])
 }
 
 // The record bytes that it holds.
@@ -39,8 +37,8 @@ fn run_in(place: &[u8]) -> [u8; 126]
     requires { place_size ≤ length place.now }
     ensures { result ≡ run_in place.now }
 {
-    let mut run = [0u8; 126];
-    blocks::copy(&mut run, 0, &place[4..130]);
+    let mut run = [0; judge::RECORD];
+    run.copy_from_slice(&place[4..PLACE]);
     run
 }
 
@@ -48,29 +46,32 @@ fn run_in(place: &[u8]) -> [u8; 126]
 pub fn lines(i: usize, place: &[u8]) -> Text
     ensures { result ≡ text_of (said_by (plan_lines i) place.now) }
 {
-    if place.len() < place::PLACE {
-        return text::empty();
+    let mut t = Text::new();
+    if place.len() < PLACE {
+        return t;
     }
-    let j = judgement_in(place);
-    let run = run_in(place);
-    report::put_verdict(text::put_numbered(text::empty(), b"plan", i as u64), j, run)
+    t.put_numbered(b"plan", i as u64);
+    report::put_verdict(&mut t, judgement_in(place), &run_in(place));
+    t
 }
 
 // The line of a call that is refused.
 pub fn refusal(number: u8) -> Text
     ensures { result ≡ text_of (numbered refused number) }
 {
-    text::put_numbered(text::empty(), b"refused", number as u64)
+    let mut t = Text::new();
+    t.put_numbered(b"refused", u64::from(number));
+    t
 }
 
 // A plan's row after its name.
 pub fn row(place: &[u8]) -> Text
     ensures { result ≡ text_of (said_by row_after_name place.now) }
 {
-    if place.len() < place::PLACE {
-        return text::empty();
+    let mut t = Text::new();
+    if place.len() < PLACE {
+        return t;
     }
-    let j = judgement_in(place);
-    let run = run_in(place);
-    rows::put_row(text::empty(), j, run)
+    rows::put_row(&mut t, judgement_in(place), &run_in(place));
+    t
 }

@@ -5,22 +5,17 @@ ghost use Rattle.sheet.specs.Row.{clean_byte, clean_name};
 fn clean_byte(b: u8) -> u8
     ensures { result ≡ clean_byte b }
 {
-    if b == 9 {
-        return 32;
+    match b {
+        b'\t' | b'\n' => b' ',
+        _ => b,
     }
-    if b == 10 {
-        return 32;
-    }
-    b
 }
 
-// The name that a row begins with.
+// The name that a row begins with: no tab or newline in it.
 pub fn clean(name: &mut [u8])
     ensures { name.new ≡ clean_name name.old }
 {
-    let mut i = 0;
-    while i < name.len() {
-        name[i] = clean_byte(name[i]);
-        i += 1;
+    for b in name.iter_mut() {
+        *b = clean_byte(*b);
     }
 }

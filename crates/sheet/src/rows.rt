@@ -1,5 +1,5 @@
 // The rows of a table for a spreadsheet, after the names.
-ghost use Rattle.std.specs.Prelude.{◌≡◌};
+ghost use Rattle.std.specs.Prelude.{◌≡◌, [], Err};
 ghost use Rattle.text.specs.Text.{appended, text_of};
 ghost use Rattle.judge.specs.Shown.{shown_entries};
 ghost use Rattle.sheet.specs.Row.{heading_line, gap, cell, cells, columns, row_of};
@@ -11,64 +11,67 @@ use text::Text;
 pub fn heading() -> Text
     ensures { result ≡ text_of heading_line }
 {
-    text::put(text::empty(), b"name\tverdict\tnumber\trun\n")
+    let mut t = Text::new();
+    t.put(b"name\tverdict\tnumber\trun\n");
+    t
 }
 
 // A blank more, but not before the first.
-fn put_gap(t: Text, i: usize) -> Text
-    ensures { result ≡ appended t (gap i) }
+fn put_gap(t: &mut Text, i: usize)
+    ensures { t.new ≡ appended t.old (gap i) }
 {
-    if i == 0 {
-        return t;
+    if i > 0 {
+        t.push(b' ');
     }
-    text::push(t, 32)
 }
 
 // Leaf and outcome of the i-th entry more.
-fn put_cell(t: Text, i: usize, leaf: u8, outcome: u8) -> Text
-    ensures { result ≡ appended t (cell i leaf outcome) }
+fn put_cell(t: &mut Text, i: usize, leaf: u8, outcome: u8)
+    ensures { t.new ≡ appended t.old (cell i leaf outcome) }
 {
-    text::put_decimal(
-        text::push(text::put_decimal(put_gap(t, i), leaf as u64), 58),
-        outcome as u64,
-    )
+    put_gap(t, i);
+    t.put_decimal(u64::from(leaf));
+    t.push(b':');
+    t.put_decimal(u64::from(outcome));
 }
 
-// The entries of the run, up to the first whose outcome is 0.
-fn put_cells(t: Text, run: [u8; 126]) -> Text
-    ensures { result ≡ appended t (cells 0 (shown_entries run)) }
+// The entries of the run that is shown.
+fn put_cells(t: &mut Text, run: &[u8; 126])
+    ensures { t.new ≡ appended t.old (cells 0 (shown_entries run.now)) }
 {
-    let mut grown = t;
-    let mut i = 0;
-    while i < 63 {
-        let leaf = run[2 * i];
-        let outcome = run[2 * i + 1];
-        if outcome == 0 {
-            return grown;
-        }
-        grown = put_cell(grown, i, leaf, outcome);
-        i += 1;
+    for i in 0..judge::entry_count(run) {
+        put_cell(t, i, run[2 * i], run[2 * i + 1]);
     }
-    grown
 }
 
 // A word, a number and a tab more: the word is lent with the tabs around it.
-fn put_columns(t: Text, word: &[u8], number: u64) -> Text
-    ensures { result ≡ appended t (columns word.now number) }
+fn put_columns(t: &mut Text, word: &[u8], number: u64)
+    ensures { t.new ≡ appended t.old (columns word.now number) }
 {
-    text::push(text::put_decimal(text::put(t, word), number), 9)
+    t.put(word);
+    t.put_decimal(number);
+    t.push(b'\t');
+}
+
+fn put_refused(t: &mut Text, number: u64)
+    ensures { t.new ≡ appended t.old (row_of (Err number) []) }
+{
+    put_columns(t, b"\trefused\t", number);
+    t.push(b'\n');
 }
 
 // What stands in a row after the name.
-pub fn put_row(t: Text, j: Judgement, run: [u8; 126]) -> Text
-    ensures { result ≡ appended t (row_of j run) }
+#[tactic(auto, using(crate::proofs::Cells::violated_row, crate::proofs::Cells::refused_row))]
+pub fn put_row(t: &mut Text, answer: Result<Judgement, u8>, run: &[u8; 126])
+    ensures { t.new ≡ appended t.old (row_of answer run.now) }
 {
-    match j {
-        Judgement::Consistent => text::put(t, b"\tconsistent\t\t\n"),
-        Judgement::Violated(set) => text::push(
-            put_cells(put_columns(t, b"\tviolated\t", set as u64), run),
-            10,
-        ),
-        Judgement::Refused(number) => text::push(put_columns(t, b"\trefused\t", number as u64), 10),
+    match answer {
+        Ok(Judgement::Consistent) => t.put(b"\tconsistent\t\t\n"),
+        Ok(Judgement::Violated(set)) => {
+            put_columns(t, b"\tviolated\t", set as u64);
+            put_cells(t, run);
+            t.push(b'\n');
+        }
+        Err(number) => put_refused(t, u64::from(number)),
     }
 }

@@ -13,6 +13,8 @@ use Rattle.nodes.specs.Nodes.{count, form, left, right, Side, Names, Under}
 use Rattle.nodes.proofs.Under.{first, all_under_last}
 use Rattle.plan.proofs.Tree.{parts_smaller}
 use Rattle.plan.specs.PlanFile.{RunnableWithin, Runnable}
+use Rattle.plan.specs.Process.{runnable_within}
+use Rattle.plan.proofs.Runnable.{runnable_of}
 
 module _ {action_limit : ℕ} (low : action_limit ≤ 63) (types b : List ℕ) (r : RunnableWithin action_limit types b) (i : ℕ) (c : i < count b) where
   sides_small : (left b i < 63) × (right b i < 63)
@@ -34,6 +36,13 @@ module _ {action_limit : ℕ} (low : action_limit ≤ 63) (types b : List ℕ) (
 
   pub right_small : right b i < 63
   right_small = sides_small.1
+
+-- the same of what a process keeps
+pub left_low : {limit : ℕ} (types b : List ℕ) (i : ℕ) → runnable_within limit types b ≡ true → limit ≤ 63 → i < count b → left b i < 63
+left_low types b i t low c = left_small low types b (runnable_of t) i c
+
+pub right_low : {limit : ℕ} (types b : List ℕ) (i : ℕ) → runnable_within limit types b ≡ true → limit ≤ 63 → i < count b → right b i < 63
+right_low types b i t low c = right_small low types b (runnable_of t) i c
 
 -- a leaf of a plan has a number below 62: the last of 63 nodes is a composite
 pub leaf_small : (types b : List ℕ) → Runnable types b → (n : ℕ) → n < count b → form b n < 3 → n < 62

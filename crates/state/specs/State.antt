@@ -1,22 +1,17 @@
 -- The state of a job: a table of the outcomes of its plan's leaves, which is all that counts of the record so far, and what the cells
 -- (crate runs) tell by it. A leaf's byte in the table is 0 where it has not run, 1 where it finished, 2 where it failed.
-use Rattle.std.specs.Prelude.{Bool, true, false, not, cond, List, [], ◌∷◌, ℕ, zero, suc, ◌+◌, ◌-◌, ◌*◌, ◌/◌, ◌%◌, ◌^◌, ltb, eqb, get_or, set, replicate}
+use Rattle.std.specs.Prelude.{Bool, false, not, cond, List, [], ◌∷◌, ℕ, zero, suc, ◌+◌, ◌-◌, ◌*◌, ◌/◌, ◌%◌, ◌^◌, ltb, eqb, get_or, set, replicate, Result, Err, Ok}
+use Rattle.runs.specs.Cells.{ended_of}
 use Rattle.nodes.specs.Nodes.{count, form, left}
 use Rattle.nodes.specs.Fold.{fold_at}
 use Rattle.runs.specs.ThreeLevels.{leaf_three, node_three, told_three}
-use Rattle.runs.specs.declared.Ended.{Ended}
-use Rattle.runs.specs.declared.Ended.TheVariants.{Open, Succeeded, Failed}
 use Rattle.runs.specs.declared.Cells.{Cells}
 use Rattle.runs.specs.declared.Told.{Told}
 use Rattle.state.specs.declared.Entry.{Entry}
-use Rattle.state.specs.declared.Replayed.{Replayed}
-
-abbrev pub outcome_of : ℕ → Ended
-outcome_of x = cond (eqb x 0) Open (cond (eqb x 1) Succeeded Failed)
 
 -- The cells of node i: one fold over the nodes.
 abbrev pub leaf_cells : List ℕ → ℕ → Cells
-leaf_cells table i = leaf_three i (outcome_of (get_or table i 0))
+leaf_cells table i = leaf_three i (ended_of (get_or table i 0))
 
 abbrev pub node_cells : List ℕ → ℕ → Cells → Cells → Cells
 node_cells b i x y = node_three (form b i) x y
@@ -51,12 +46,10 @@ may_come types b table n outcome = cond (leaf_permits types b n outcome) (is_nex
 abbrev pub fresh_table : List ℕ
 fresh_table = replicate 63 0
 
--- The table after some entries, each of which might come where it stands.
-unfoldable pub replay : List ℕ → List ℕ → List ℕ → List Entry → Replayed
-replay types b table [] = record { ok = true; table = table }
-replay types b table (e ∷ es) =
-    cond (may_come types b table e.leaf e.outcome) (replay types b (set table e.leaf e.outcome) es)
-    (record { ok = false; table = table })
+-- The table after some entries, where each of them might come where it stands; else the table before the first that might not.
+unfoldable pub replay : List ℕ → List ℕ → List ℕ → List Entry → Result (List ℕ) (List ℕ)
+replay types b table [] = Ok table
+replay types b table (e ∷ es) = cond (may_come types b table e.leaf e.outcome) (replay types b (set table e.leaf e.outcome) es) (Err table)
 
 -- The entries of a record: k of them from entry i on, two bytes each.
 abbrev pub entry_at : List ℕ → ℕ → Entry
@@ -67,5 +60,5 @@ entries_from r i zero = []
 entries_from r i (suc k) = entry_at r i ∷ entries_from r (i + 1) k
 
 -- The table after the first `taken` entries of a record.
-abbrev pub state_after : List ℕ → List ℕ → List ℕ → ℕ → Replayed
+abbrev pub state_after : List ℕ → List ℕ → List ℕ → ℕ → Result (List ℕ) (List ℕ)
 state_after types b r taken = replay types b fresh_table (entries_from r 0 taken)

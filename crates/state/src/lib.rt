@@ -2,139 +2,101 @@
 #![tactic(auto)]
 
 ghost use Rattle.std.specs.Prelude.{◌≡◌, ◌<◌, ltb, length, cond};
+ghost use Rattle.runs.specs.Cells.{ended_of};
 ghost use Rattle.runs.specs.ThreeLevels.{leaf_three, node_three};
-ghost use Rattle.plan.specs.PlanFile.{Runnable};
 ghost use Rattle.nodes.specs.Nodes.{count, FormRules};
-ghost use Rattle.state.specs.State.{outcome_of, told_by, leaf_type, type_permits, leaf_permits, may_come, state_after};
+ghost use Rattle.state.specs.State.{told_by, leaf_type, type_permits, leaf_permits, may_come, state_after};
 
+use plan::Process;
 use runs::{Cells, Ended, Told};
 
-// An entry of a run: the leaf's node number, then 1 (finished) or 2 (failed).
-#[derive(Clone, Copy)]
+// An entry of a run: the leaf's node number, then 1 (finished) or 2 (failed). They stay numbers, as a record holds them: any byte may stand there.
+#[derive(Clone, Copy, Debug, PartialEq, Eq)]
 pub struct Entry {
     pub leaf: u8,
     pub outcome: u8,
 }
 
-// The table after a record, where each of its entries might come where it stands.
-#[derive(Drop)]
-pub struct Replayed {
-    pub ok: bool,
-    pub table: [u8; 63],
-}
-
-fn outcome_of(x: u8) -> Ended
-    ensures { result ≡ outcome_of x }
+// The cells of node i, of the form `form`: a leaf's by its outcome, a composite's from those of its parts.
+fn cell_of(i: usize, form: u8, outcome: u8, x: Cells, y: Cells) -> Cells
+    ensures { result ≡ cond (ltb form 3) (leaf_three i (ended_of outcome)) (node_three form x y) }
 {
-    if x == 0 {
-        return Ended::Open;
+    if form < 3 {
+        cells::leaf_cells(i, Ended::from(outcome))
+    } else {
+        cells::node_cells(form, x, y)
     }
-    if x == 1 {
-        return Ended::Succeeded;
-    }
-    Ended::Failed
-}
-
-// The cells of node i, of the form `f`: a leaf's by its outcome, a composite's from those of its parts.
-fn cell_of(i: usize, f: u8, outcome: u8, x: Cells, y: Cells) -> Cells
-    ensures { result ≡ cond (ltb f 3) (leaf_three i (outcome_of outcome)) (node_three f x y) }
-{
-    if f < 3 {
-        return cells::leaf_cells(i, outcome_of(outcome));
-    }
-    cells::node_cells(f, x, y)
 }
 
 // What the whole process tells.
-pub fn told_by(types: &[u8], nodes: &[u8], table: &[u8; 63]) -> Told
-    requires { Runnable types.now nodes.now }
-    ensures { result ≡ told_by nodes.now table.now }
+#[tactic(auto, using(plan::proofs::Runnable::few_nodes, plan::proofs::Runnable::some_nodes, crate::proofs::Sides::left_low, crate::proofs::Sides::right_low))]
+pub fn told_by(process: &Process<10>, table: &[u8; 63]) -> Told
+    ensures { result ≡ told_by process.now.nodes.now table.now }
 {
-    let none = cells::nothing();
+    let nodes = process.nodes;
     let n = nodes.len() / 3;
-    let mut cells = [none; 63];
-    let mut i = 0;
-    while i < n {
+    let mut cells = [cells::nothing(); 63];
+    for i in 0..n {
         let x = nodes::node_at(nodes, i);
-        let l = x.left;
-        let r = x.right;
-        let v = cell_of(i, x.form, table[i], cells[l], cells[r]);
-        cells[i] = v;
-        i += 1;
+        cells[i] = cell_of(i, x.form, table[i], cells[x.left], cells[x.right]);
     }
     cells::tell(cells[n - 1])
 }
 
+// A leaf of type 2 does not finish, one of type 1 does not fail.
 fn type_permits(kind: u8, outcome: u8) -> bool
     ensures { result ≡ type_permits kind outcome }
 {
-    if outcome == 1 {
-        return kind != 2;
+    match outcome {
+        1 => kind != 2,
+        2 => kind != 1,
+        _ => false,
     }
-    if outcome == 2 {
-        return kind != 1;
-    }
-    false
 }
 
-// The type of leaf n.
+// The type of leaf n. By slices, of which it asks less than a process keeps.
 pub fn leaf_type(types: &[u8], nodes: &[u8], n: usize) -> u8
     requires { FormRules (length types.now) nodes.now × (n < count nodes.now) }
     ensures { result ≡ leaf_type types.now nodes.now n }
 {
     let x = nodes::node_at(nodes, n);
-    let f = x.form;
-    let a = x.left;
-    if f == 0 {
-        return types[a];
-    }
-    f
+    if x.form == 0 { types[x.left] } else { x.form }
 }
 
 // Whether node n is a leaf whose type permits the outcome.
-fn leaf_permits(types: &[u8], nodes: &[u8], n: usize, outcome: u8) -> bool
-    requires { Runnable types.now nodes.now }
-    ensures { result ≡ leaf_permits types.now nodes.now n outcome }
+fn leaf_permits(process: &Process<10>, n: usize, outcome: u8) -> bool
+    ensures { result ≡ leaf_permits process.now.types.now process.now.nodes.now n outcome }
 {
-    if n < nodes.len() / 3 {
-        let x = nodes::node_at(nodes, n);
-        if x.form < 3 {
-            return type_permits(leaf_type(types, nodes, n), outcome);
-        }
-        return false;
-    }
-    false
+    n < process.nodes.len() / 3
+        && process.nodes[3 * n] < 3
+        && type_permits(leaf_type(process.types, process.nodes, n), outcome)
 }
 
 // Whether the entry may come now.
-pub fn may_come(types: &[u8], nodes: &[u8], table: &[u8; 63], leaf: u8, outcome: u8) -> bool
-    requires { Runnable types.now nodes.now }
-    ensures { result ≡ may_come types.now nodes.now table.now leaf outcome }
+pub fn may_come(process: &Process<10>, table: &[u8; 63], leaf: u8, outcome: u8) -> bool
+    ensures { result ≡ may_come process.now.types.now process.now.nodes.now table.now leaf outcome }
 {
-    let n = blocks::wide(leaf);
-    if leaf_permits(types, nodes, n, outcome) {
-        let told = told_by(types, nodes, table);
-        return (told.next >> n) % 2 == 1;
-    }
-    false
+    let n = usize::from(leaf);
+    leaf_permits(process, n, outcome) && (told_by(process, table).next >> n) % 2 == 1
 }
 
-// The table after the first `taken` entries of a record.
-pub fn state_after(types: &[u8], nodes: &[u8], entries: &[u8; 126], taken: usize) -> Replayed
-    requires { Runnable types.now nodes.now × (taken < 63) }
-    ensures { result ≡ state_after types.now nodes.now entries.now taken }
+// The table after the first `taken` entries of a record, where each of them might come where it stands; else the table before the first that might not.
+pub fn state_after(
+    process: &Process<10>,
+    entries: &[u8; 126],
+    taken: usize,
+) -> Result<[u8; 63], [u8; 63]>
+    requires { taken < 63 }
+    ensures { result ≡ state_after process.now.types.now process.now.nodes.now entries.now taken }
 {
     let mut table = [0u8; 63];
-    let mut i = 0;
-    while i < taken {
+    for i in 0..taken {
         let leaf = entries[2 * i];
         let outcome = entries[2 * i + 1];
-        if !may_come(types, nodes, &table, leaf, outcome) {
-            return Replayed { ok: false, table };
+        if !may_come(process, &table, leaf, outcome) {
+            return Err(table);
         }
-        let n = blocks::wide(leaf);
-        table[n] = outcome;
-        i += 1;
+        table[usize::from(leaf)] = outcome;
     }
-    Replayed { ok: true, table }
+    Ok(table)
 }

@@ -6,7 +6,7 @@ use Prim.Native.Nat.{ℕ, zero, suc, ◌%◌, ◌≤◌, ◌<◌}
 use native.Mathlib.Omega.{arith}
 use lib.ListN.{get_or-eq_default}
 use Rattle.family.specs.Family.{Empty, Single}
-use Rattle.family.proofs.Bits.{no_bit}
+use Rattle.std.proofs.lemmas.Nat.Bits.{bit_at-zero}
 use Rattle.family.proofs.Words.{single_word, none_empty}
 use Rattle.outcomes.specs.ThreeLevels.{unsettled}
 use Rattle.outcomes.proofs.Members.{among_member}
@@ -40,10 +40,10 @@ module _ (P : ℕ → List ℕ → Type 0) (s : Summary) where
       any_code (λ code f. 1 ≤ code → code < 15 → unsettled code ≡ false → P code f) s (λ h. absurd (omega arith)) (λ h l u. p₁) (λ h l u. p₂) (λ h l u. p₃) (λ h l u. p₄) (λ h l u. p₆) (λ h l u. p₇) (λ h l u. p₉) (λ h l u. p₁₀) (λ h l u. p₁₁) (λ h l u. p₁₃) (λ h l u. p₁₄) (λ code e h l u. absurd (true≢false (sym e ∙ u))) (λ code g h l. absurd (omega arith))
 
 pub empty_set_lem : Single 0 empty_set
-empty_set_lem = single_word 0 (omega arith)
+empty_set_lem = single_word no_sets refl none_empty 0 (omega arith)
 
 pub no_words : Empty []
-no_words t on = omega (arith, no_bit (t % 64))
+no_words t on = omega (arith, bit_at-zero (t % 64))
 
 -- above 14 there is no set
 pub beyond : (s : Summary) (code : ℕ) → 15 ≤ code → Empty (family_of s code)

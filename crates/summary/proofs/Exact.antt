@@ -8,7 +8,7 @@ use native.Mathlib.Omega.{arith}
 use borrow.Author.Tests.{eq-eqb}
 use lib.Dec.{T, eqb, eqb→eq}
 use Rattle.family.specs.Family.{In}
-use Rattle.family.proofs.Numbers.{same_or_other, below_or_above}
+use Rattle.std.proofs.lemmas.Bool.{cases_eq, cases_lt}
 use Rattle.process.specs.Process.{ok, fail, Kind, permits, Process, leaf, node}
 use Rattle.process.specs.Forms.{form_of, form_number}
 use Rattle.outcomes.specs.Sets.{numbers}
@@ -82,7 +82,7 @@ module _ (single : ℕ → ℕ) (form : ℕ) (P Q : Process) (a b s : Summary) (
 
   settled_sound : (code t : ℕ) → code < 15 → (b : Bool) → unsettled code ≡ b → In (family_of s code) t → Family code t
   settled_sound code t small true u on = absurd (none_unsettled s code u t on)
-  settled_sound code t small false u on = elim (same_or_other code 0) [
+  settled_sound code t small false u on = elim (cases_eq code 0) [
     | inl none ↦ let z = (empty_set_lem.sound t (rw none at on)).0 in rw (none, z) none_listed
     | inr d ↦ let f = (under code (omega arith) small u).sound t on in
         in_node_family three_levels (numbers single) (form_of form) P Q
@@ -90,13 +90,13 @@ module _ (single : ℕ → ℕ) (form : ℕ) (P Q : Process) (a b s : Summary) (
   ]
 
   node_sound : (code t : ℕ) → In (family_of s code) t → Family code t
-  node_sound code t on = elim (below_or_above code 15) [
+  node_sound code t on = elim (cases_lt code 15) [
     | inl small ↦ settled_sound code t small (unsettled code) refl on
     | inr large ↦ absurd (beyond s code large t on)
   ]
 
   code_small : (c : Summary) (R : Process) → Exact single c R → {code t : ℕ} → InFamily3 (numbers single) R code t → code < 15
-  code_small c R e {code} {t} m = elim (below_or_above code 15) [ inl small ↦ small | inr large ↦ absurd (beyond c code large t ((e code t).1 m)) ]
+  code_small c R e {code} {t} m = elim (cases_lt code 15) [ inl small ↦ small | inr large ↦ absurd (beyond c code large t ((e code t).1 m)) ]
 
   zero_set : (c : Summary) (R : Process) → Exact single c R → {code t : ℕ} → code ≡ 0 → InFamily3 (numbers single) R code t → t ≡ 0
   zero_set c R e {code} {t} z m = (empty_set_lem.sound t (rw z at ((e code t).1 m))).0
@@ -105,7 +105,7 @@ module _ (single : ℕ → ℕ) (form : ℕ) (P Q : Process) (a b s : Summary) (
   node_complete code t m = elim (out_node_family three_levels (numbers single) (form_of form) P Q m) [
     | from_sides {l = left} {r = right} {A = A} {B = B} i j e small u ↦
         let cell : cell3 form left right ≡ code = rw (same_number form h l) at e in
-        elim (same_or_other code 0) [
+        elim (cases_eq code 0) [
           | inl none ↦
               let sum = cell_zero form h l left right (code_small a P p i) (code_small b Q q j) (cell ∙ none) in
               let x = zero_set a P p (omega arith) i in

@@ -2,5 +2,5 @@ pub mod Codes
 pub mod Leaves
 pub mod Rows
 pub mod Marking
-pub mod Sides
+pub mod Unions
 pub mod Exact

@@ -6,18 +6,9 @@ use Rattle.outcomes.specs.Rows.{row_in, digit_of}
 use Rattle.summary.specs.declared.Summary.{Summary}
 use Rattle.summary.specs.Summary.{family_of}
 
--- In r is what was in m, and the code where its family has a set.
-pub record CodeMarked (m : ℕ) (f : List ℕ) (code r : ℕ) : Type 0 where
-  pub keeps : (i : ℕ) → bit_at m i ≡ 1 → bit_at r i ≡ 1
-  pub adds : (t : ℕ) → In f t → bit_at r code ≡ 1
-
 -- Every code with sets is marked.
 abbrev pub Live : Summary → ℕ → Type 0
 Live s m = (code t : ℕ) → In (family_of s code) t → bit_at m code ≡ 1
-
--- The row of a left code that is marked.
-abbrev pub RowOf : List ℕ → ℕ → ℕ → ℕ → ℕ → Type 0
-RowOf table form lefts left row = bit_at lefts left ≡ 1 → row ≡ row_in table form left
 
 -- In r is what was in m, and the left code under each digit of the row that stands at a marked right code.
 pub record Marked (m : List ℕ) (row rights left : ℕ) (r : List ℕ) : Type 0 where
@@ -31,3 +22,7 @@ Marks table form lefts rights n r = (left : ℕ) → left < n → bit_at lefts l
 -- Every left code that with some right code gives this code, both with sets, is marked.
 abbrev pub Among : (ℕ → ℕ → ℕ) → ℕ → Summary → Summary → ℕ → Type 0
 Among cells code a b m = (left right x y : ℕ) → cells left right ≡ code → In (family_of a left) x → In (family_of b right) y → bit_at m left ≡ 1
+
+-- Of a node's marks, those at the digit of each code.
+abbrev pub MarkedAmong : (ℕ → ℕ → ℕ) → Summary → Summary → List ℕ → Type 0
+MarkedAmong cells a b marks = (code : ℕ) → code < 15 → Among cells code a b (get_or marks (suc code) 0)

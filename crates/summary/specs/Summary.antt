@@ -13,6 +13,22 @@ empty_set = set (replicate 16 0) 0 1
 abbrev pub no_sets : List ℕ
 no_sets = replicate 16 0
 
+-- The summary without sets.
+abbrev pub no_summary : Summary
+no_summary = record {
+  s1 = no_sets;
+  s2 = no_sets;
+  s3 = no_sets;
+  s4 = no_sets;
+  s6 = no_sets;
+  s7 = no_sets;
+  s9 = no_sets;
+  s10 = no_sets;
+  s11 = no_sets;
+  s13 = no_sets;
+  s14 = no_sets;
+}
+
 -- The families by their codes: "Code 0 has the empty set only".
 abbrev pub families : Summary → List (List ℕ)
 families s = empty_set ∷ s.s1 ∷ s.s2 ∷ s.s3 ∷ s.s4 ∷ no_sets ∷ s.s6 ∷ s.s7 ∷ no_sets ∷ s.s9 ∷ s.s10 ∷ s.s11 ∷ no_sets ∷ s.s13 ∷ s.s14 ∷ []

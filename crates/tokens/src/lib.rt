@@ -1,165 +1,118 @@
-// The tokens of a typed rule, one after the other, by their numbers.
+// The tokens of a typed rule, one after the other.
 #![tactic(auto)]
 
-ghost use Rattle.std.specs.Prelude.{◌≡◌, ◌+◌, ◌≤◌, drop};
-ghost use Rattle.grammar.specs.Next.{parted, stands, word_number, token_number, size, blanks};
-ghost use Rattle.tokens.specs.Tokens.{next_of};
+ghost use Rattle.std.specs.Prelude.{◌≡◌, ◌+◌, ◌≤◌, drop, length};
+ghost use Rattle.grammar.specs.Next.{parted, stands, word_number, token_number, blanks};
+ghost use Rattle.tokens.specs.Tokens.{next_of, size_of, token_of};
 
-// The numbers of the tokens: a letter's is its action's, and not, and and or have that of their byte in a rule.
-pub const LETTERS: u8 = 10;
+// A token, the letter of an action by the action's number; or what is none: bytes that spell no token, and the end.
+#[derive(Clone, Copy, Debug, PartialEq, Eq)]
+pub enum Token {
+    Letter(u8),
+    Not,
+    And,
+    Or,
+    Implies,
+    Opening,
+    Closing,
+    Wrong,
+    End,
+}
 
-pub const NOT: u8 = 0x80;
-
-pub const AND: u8 = 0x81;
-
-pub const OR: u8 = 0x82;
-
-pub const IMPLIES: u8 = 0x83;
-
-pub const OPENING: u8 = 0x84;
-
-pub const CLOSING: u8 = 0x85;
-
-// What is no token: bytes that spell none, and the end.
-pub const WRONG: u8 = 0xFE;
-
-pub const NONE: u8 = 0xFF;
-
-// A token by its number, and the place after it.
-#[derive(Drop)]
+// A token, and the place after it.
+#[derive(Clone, Copy, Debug, PartialEq, Eq)]
 pub struct Next {
-    pub kind: u8,
+    pub kind: Token,
     pub at: usize,
 }
 
-// The place after the blanks.
-fn skip(text: &[u8], at: usize) -> usize
-    ensures { result ≡ at + blanks (drop at text.now) }
-{
-    let mut i = at;
-    while i < text.len() {
-        if text[i] != 32 {
-            return i;
+impl Token {
+    // How many bytes it takes.
+    fn size(self) -> usize
+        ensures { (result ≡ size_of self) × (result ≤ 7) }
+    {
+        match self {
+            Token::Letter(_) | Token::Opening | Token::Closing => 1,
+            Token::Or => 2,
+            Token::Not | Token::And => 3,
+            Token::Implies => 7,
+            Token::Wrong | Token::End => 0,
         }
-        i += 1;
     }
-    i
 }
 
-// Whether the text ends here, or a blank or a bracket stands here.
-fn is_parted(text: &[u8], at: usize) -> bool
-    ensures { result ≡ parted (drop at text.now) }
+// How many blanks the bytes begin with.
+fn blanks_in(bytes: &[u8]) -> usize
+    ensures { (result ≡ blanks bytes.now) × (result ≤ length bytes.now) }
 {
-    if at >= text.len() {
-        return true;
-    }
-    let x = text[at];
-    if x == 32 {
-        return true;
-    }
-    if x == 40 {
-        return true;
-    }
-    x == 41
+    bytes.iter().take_while(|x| **x == b' ').count()
 }
 
-// Whether the word stands here.
-fn stands_at(text: &[u8], at: usize, word: &[u8]) -> bool
-    ensures { result ≡ stands word.now (drop at text.now) }
+// Whether the bytes are at their end, or begin with a blank or a bracket.
+#[tactic(auto, using(crate::proofs::Scan::parted_first))]
+fn is_parted(bytes: &[u8]) -> bool
+    ensures { result ≡ parted bytes.now }
 {
-    let mut i = 0;
-    let mut j = at;
-    while i < word.len() {
-        if j >= text.len() {
-            return false;
-        }
-        if word[i] != text[j] {
-            return false;
-        }
-        i += 1;
-        j += 1;
-    }
-    is_parted(text, j)
+    matches!(bytes, [] | [b' ' | b'(' | b')', ..])
 }
 
-// The number of the word that stands here.
-fn word_number(text: &[u8], at: usize) -> u8
-    ensures { result ≡ word_number (drop at text.now) }
+// Whether the bytes begin with the word.
+#[tactic(auto, using(crate::proofs::Scan::stands_first))]
+fn stands(bytes: &[u8], word: &[u8]) -> bool
+    ensures { result ≡ stands word.now bytes.now }
 {
-    if stands_at(text, at, b"not") {
-        return NOT;
-    }
-    if stands_at(text, at, b"and") {
-        return AND;
-    }
-    if stands_at(text, at, b"or") {
-        return OR;
-    }
-    if stands_at(text, at, b"implies") {
-        return IMPLIES;
-    }
-    WRONG
+    bytes.starts_with(word) && is_parted(&bytes[word.len()..])
 }
 
-// The number of the token that stands here.
-fn token_number(text: &[u8], at: usize) -> u8
-    ensures { result ≡ token_number (drop at text.now) }
+// The word that the bytes begin with.
+#[tactic(auto, unfolding(grammar::specs::Next::word_number))]
+fn word_in(bytes: &[u8]) -> Token
+    ensures { result ≡ token_of (word_number bytes.now) }
 {
-    if at >= text.len() {
-        return NONE;
+    if stands(bytes, b"not") {
+        return Token::Not;
     }
-    let x = text[at];
-    if x == 40 {
-        return OPENING;
+    if stands(bytes, b"and") {
+        return Token::And;
     }
-    if x == 41 {
-        return CLOSING;
+    if stands(bytes, b"or") {
+        return Token::Or;
     }
-    if x < 97 {
-        return word_number(text, at);
+    if stands(bytes, b"implies") {
+        return Token::Implies;
     }
-    if x >= 97 + LETTERS {
-        return word_number(text, at);
-    }
-    if is_parted(text, at + 1) {
-        return x - 97;
-    }
-    word_number(text, at)
+    Token::Wrong
 }
 
-// How many bytes the token of a number takes.
-fn size_of(kind: u8) -> usize
-    ensures { (result ≡ size kind) × (result ≤ 7) }
+// The token that the bytes begin with, which do not begin with a blank.
+#[tactic(auto, using(crate::proofs::Scan::token_first))]
+fn token_in(bytes: &[u8]) -> Token
+    ensures { result ≡ token_of (token_number bytes.now) }
 {
-    if kind == NOT {
-        return 3;
+    match bytes {
+        [] => Token::End,
+        [b'(', ..] => Token::Opening,
+        [b')', ..] => Token::Closing,
+        [x @ b'a'..=b'j', rest @ ..] if is_parted(rest) => Token::Letter(*x - b'a'),
+        _ => word_in(bytes),
     }
-    if kind == AND {
-        return 3;
-    }
-    if kind == OR {
-        return 2;
-    }
-    if kind == IMPLIES {
-        return 7;
-    }
-    if kind >= WRONG {
-        return 0;
-    }
-    1
 }
 
-// The next token from a place on.
+// The next token from a place on, which may lie behind the text.
+#[tactic(auto, using(crate::proofs::Scan::next_none))]
 pub fn next_token(text: &[u8], at: usize) -> Next
     ensures { result ≡ next_of text.now at }
 {
-    let i = skip(text, at);
-    if i >= text.len() {
-        return Next { kind: NONE, at: i };
+    if at >= text.len() {
+        return Next {
+            kind: Token::End,
+            at,
+        };
     }
-    let kind = token_number(text, i);
+    let from = at + blanks_in(&text[at..]);
+    let kind = token_in(&text[from..]);
     Next {
         kind,
-        at: i + size_of(kind),
+        at: from + kind.size(),
     }
 }

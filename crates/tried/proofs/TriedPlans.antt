@@ -5,6 +5,7 @@ use mathlib.Core.Bool.{Bool, true, false, ◌&&◌}
 use mathlib.Core.List.{List, [], ◌∷◌, flat_map, Memᴰ}
 use Prim.Native.Nat.{ℕ, ◌≤◌}
 use native.Mathlib.Omega.{arith}
+use Rattle.std.specs.Prelude.{Result, Ok, Err}
 use lib.Dec.{T, eqb, eqb→eq}
 use lib.ListN.{length, take, replicate, length-replicate}
 use lib.Seq.{take_all}
@@ -22,14 +23,14 @@ use Rattle.blocks.specs.Bounded.{every, total}
 use Rattle.nodes.specs.Fold.{fold_from}
 use Rattle.bodies.specs.Rule.{rule_from}
 use Rattle.plan.specs.Reading.{read_of}
-use Rattle.plan.specs.declared.Reading.{Reading}
-use Rattle.plan.specs.declared.Reading.TheVariants.{Accepted, Refused}
+use Rattle.plan.specs.declared.Fault.{Fault}
+use Rattle.plan.specs.declared.Layout.{Layout}
 use Rattle.meaning.specs.Value.{values, satisfies}
-use Rattle.judge.specs.Verdict.{smallest, plan_sets_of, work_size, record_size, verdict_of}
+use Rattle.judge.specs.Verdict.{Answer, smallest, plan_sets_of, work_size, record_size, verdict_of}
 use Rattle.judge.specs.Shown.{shown_entries}
 use Rattle.judge.specs.Judged.{Judged}
 use Rattle.judge.specs.declared.Judgement.{Judgement}
-use Rattle.judge.specs.declared.Judgement.TheVariants as verdict
+use Rattle.judge.specs.declared.Judgement.TheVariants.{Consistent, Violated}
 use Rattle.judge.proofs.PlanRuns.{left_by, run_set_listed}
 use Rattle.judge.proofs.Demand3.{found_answer}
 use Rattle.report.specs.Lines.{entry_lines, verdict_lines}
@@ -59,32 +60,33 @@ all_at {A = A} {P = P} no_more m = elim m [ ]
 all_at {P = P} (t then ts) (Memᴰ.head e) = subst P (sym e) t
 all_at (t then ts) (Memᴰ.tail m) = all_at ts m
 
-abbrev same_verdict : Judgement → Judgement → Bool
-same_verdict verdict.Consistent verdict.Consistent = true
-same_verdict verdict.Consistent (verdict.Violated u) = false
-same_verdict verdict.Consistent (verdict.Refused n) = false
-same_verdict (verdict.Violated t) verdict.Consistent = false
-same_verdict (verdict.Violated t) (verdict.Violated u) = eqb t u
-same_verdict (verdict.Violated t) (verdict.Refused n) = false
-same_verdict (verdict.Refused m) verdict.Consistent = false
-same_verdict (verdict.Refused m) (verdict.Violated u) = false
-same_verdict (verdict.Refused m) (verdict.Refused n) = eqb m n
+abbrev same_judgement : Judgement → Judgement → Bool
+same_judgement Consistent Consistent = true
+same_judgement Consistent (Violated u) = false
+same_judgement (Violated t) Consistent = false
+same_judgement (Violated t) (Violated u) = eqb t u
 
-same_verdict_lem : (v w : Judgement) → T (same_verdict v w) → v ≡ w
-same_verdict_lem verdict.Consistent verdict.Consistent t = refl
-same_verdict_lem verdict.Consistent (verdict.Violated u) t = absurd t
-same_verdict_lem verdict.Consistent (verdict.Refused n) t = absurd t
-same_verdict_lem (verdict.Violated s) verdict.Consistent t = absurd t
-same_verdict_lem (verdict.Violated s) (verdict.Violated u) t = ap verdict.Violated (eqb→eq s u t)
-same_verdict_lem (verdict.Violated s) (verdict.Refused n) t = absurd t
-same_verdict_lem (verdict.Refused m) verdict.Consistent t = absurd t
-same_verdict_lem (verdict.Refused m) (verdict.Violated u) t = absurd t
-same_verdict_lem (verdict.Refused m) (verdict.Refused n) t = ap verdict.Refused (eqb→eq m n t)
+same_judgement_lem : (v w : Judgement) → T (same_judgement v w) → v ≡ w
+same_judgement_lem Consistent Consistent t = refl
+same_judgement_lem Consistent (Violated u) t = absurd t
+same_judgement_lem (Violated s) Consistent t = absurd t
+same_judgement_lem (Violated s) (Violated u) t = ap Violated (eqb→eq s u t)
+
+-- no row's verdict is a refusal
+abbrev same_verdict : Answer → Answer → Bool
+same_verdict (Ok v) (Ok w) = same_judgement v w
+same_verdict (Ok v) (Err s) = false
+same_verdict (Err r) w = false
+
+same_verdict_lem : (v w : Answer) → T (same_verdict v w) → v ≡ w
+same_verdict_lem (Ok v) (Ok w) t = rw (same_judgement_lem v w t)
+same_verdict_lem (Ok v) (Err s) t = absurd t
+same_verdict_lem (Err r) w t = absurd t
 
 -- the sets of the file and of the row are the same
-abbrev same_sets : TriedPlan → Reading → Bool
-same_sets p (Accepted l) = each (λ X. among X p.sets) (plan_sets_of p.file l) && each (λ X. among X (plan_sets_of p.file l)) p.sets
-same_sets p (Refused n) = false
+abbrev same_sets : TriedPlan → Result Layout Fault → Bool
+same_sets p (Ok l) = each (λ X. among X p.sets) (plan_sets_of p.file l) && each (λ X. among X (plan_sets_of p.file l)) p.sets
+same_sets p (Err f) = false
 
 abbrev agrees : TriedPlan → Bool
 agrees p = same_sets p (read_of p.file) && same_verdict (verdict_of p.file work_size record_size) p.verdict
@@ -115,7 +117,7 @@ nested_told : All Told nested_plans
 nested_told = told_consistent q1 refl refl then told_consistent q2 refl refl then told_consistent q3 refl refl then told_consistent q4 refl refl then told_consistent q5 refl refl then no_more
 
 -- the verdict in areas that are large enough is the row's
-lines_told : (p : TriedPlan) → Told p → verdict_of p.file work_size record_size ≡ p.verdict → (work work' old new : List ℕ) (v : Judgement)
+lines_told : (p : TriedPlan) → Told p → verdict_of p.file work_size record_size ≡ p.verdict → (work work' old new : List ℕ) (v : Answer)
     → Judged p.file work work' old new v → work_size ≤ length work → record_size ≤ length old → verdict_lines v (take record_size new) ≡ p.lines
 lines_told p t e work work' old new v j large wide =
     let as_small = found_answer p.file (length work) (length old) large wide ∙ sym (found_answer p.file work_size record_size (omega arith) (omega arith)) in
@@ -133,9 +135,9 @@ text_told p t e text x =
     let lines = lines_told p t e (replicate work_size 0) x.finds.work (replicate record_size 0) run v j (omega arith) (omega arith) in
     x.is ∙ ap (λ (r : List ℕ). text_of (verdict_lines v r)) (sym (take_all record_size run (omega arith))) ∙ ap text_of lines
 
-row_holds : (p : TriedPlan) (r : Reading) → read_of p.file ≡ r → T (same_sets p r) → verdict_of p.file work_size record_size ≡ p.verdict → Told p → Holds p
-row_holds p (Refused n) e t v told = absurd t
-row_holds p (Accepted l) e t v told =
+row_holds : (p : TriedPlan) (r : Result Layout Fault) → read_of p.file ≡ r → T (same_sets p r) → verdict_of p.file work_size record_size ≡ p.verdict → Told p → Holds p
+row_holds p (Err f) e t v told = absurd t
+row_holds p (Ok l) e t v told =
     let (only, all) = both_hold (each (λ X. among X p.sets) (plan_sets_of p.file l)) _ t in
     record {
       layout = l;

@@ -1,7 +1,7 @@
 -- The second table of tried plans, of request N14: plans with a compensation in an undo side. Letters are actions in order of appearance; there are no pairs, and the rule is
 -- action 0.
 use mathlib.Core.List.{List, [], ◌∷◌, Memᴰ}
-use Rattle.std.specs.Prelude.{◌≡◌, length}
+use Rattle.std.specs.Prelude.{◌≡◌, length, Ok}
 use Rattle.text.specs.Text.{ascii}
 use Rattle.judge.specs.declared.Judgement.TheVariants.{Consistent}
 use Rattle.tried.specs.TriedPlans.{TriedPlan, Holds}
@@ -11,7 +11,7 @@ abbrev pub q1 : TriedPlan
 q1 = record {
   file = 3 ∷ 0 ∷ 1 ∷ 0 ∷ 1 ∷ 1 ∷ 1 ∷ 0 ∷ 0 ∷ 2 ∷ 0 ∷ 21 ∷ 0 ∷ 3 ∷ 0 ∷ 0 ∷ 0 ∷ 0 ∷ 0 ∷ 1 ∷ 0 ∷ 0 ∷ 2 ∷ 0 ∷ 6 ∷ 1 ∷ 2 ∷ 6 ∷ 0 ∷ 3 ∷ 2 ∷ 0 ∷ 0 ∷ 3 ∷ 4 ∷ 5 ∷ 1 ∷ 0 ∷ 4 ∷ 0 ∷ 0 ∷ [];
   sets = 3 ∷ [];
-  verdict = Consistent;
+  verdict = Ok Consistent;
   lines = ascii "consistent\n";
 }
 
@@ -20,7 +20,7 @@ abbrev pub q2 : TriedPlan
 q2 = record {
   file = 4 ∷ 0 ∷ 1 ∷ 0 ∷ 1 ∷ 1 ∷ 1 ∷ 3 ∷ 0 ∷ 0 ∷ 2 ∷ 0 ∷ 27 ∷ 0 ∷ 3 ∷ 0 ∷ 0 ∷ 0 ∷ 0 ∷ 0 ∷ 1 ∷ 0 ∷ 0 ∷ 2 ∷ 0 ∷ 6 ∷ 1 ∷ 2 ∷ 0 ∷ 3 ∷ 0 ∷ 3 ∷ 3 ∷ 4 ∷ 6 ∷ 0 ∷ 5 ∷ 2 ∷ 0 ∷ 0 ∷ 3 ∷ 6 ∷ 7 ∷ 1 ∷ 0 ∷ 4 ∷ 0 ∷ 0 ∷ [];
   sets = 7 ∷ 11 ∷ [];
-  verdict = Consistent;
+  verdict = Ok Consistent;
   lines = ascii "consistent\n";
 }
 
@@ -29,7 +29,7 @@ abbrev pub q3 : TriedPlan
 q3 = record {
   file = 5 ∷ 0 ∷ 1 ∷ 0 ∷ 1 ∷ 1 ∷ 1 ∷ 2 ∷ 1 ∷ 0 ∷ 0 ∷ 2 ∷ 0 ∷ 33 ∷ 0 ∷ 3 ∷ 0 ∷ 0 ∷ 0 ∷ 0 ∷ 0 ∷ 1 ∷ 0 ∷ 0 ∷ 2 ∷ 0 ∷ 6 ∷ 1 ∷ 2 ∷ 0 ∷ 3 ∷ 0 ∷ 3 ∷ 3 ∷ 4 ∷ 6 ∷ 0 ∷ 5 ∷ 2 ∷ 0 ∷ 0 ∷ 3 ∷ 6 ∷ 7 ∷ 0 ∷ 4 ∷ 0 ∷ 7 ∷ 8 ∷ 9 ∷ 1 ∷ 0 ∷ 4 ∷ 0 ∷ 0 ∷ [];
   sets = 23 ∷ [];
-  verdict = Consistent;
+  verdict = Ok Consistent;
   lines = ascii "consistent\n";
 }
 
@@ -38,7 +38,7 @@ abbrev pub q4 : TriedPlan
 q4 = record {
   file = 5 ∷ 0 ∷ 1 ∷ 0 ∷ 1 ∷ 1 ∷ 1 ∷ 1 ∷ 3 ∷ 0 ∷ 0 ∷ 2 ∷ 0 ∷ 33 ∷ 0 ∷ 3 ∷ 0 ∷ 0 ∷ 0 ∷ 0 ∷ 0 ∷ 1 ∷ 0 ∷ 0 ∷ 2 ∷ 0 ∷ 6 ∷ 1 ∷ 2 ∷ 6 ∷ 0 ∷ 3 ∷ 0 ∷ 3 ∷ 0 ∷ 0 ∷ 4 ∷ 0 ∷ 6 ∷ 5 ∷ 6 ∷ 4 ∷ 4 ∷ 7 ∷ 2 ∷ 0 ∷ 0 ∷ 3 ∷ 8 ∷ 9 ∷ 1 ∷ 0 ∷ 4 ∷ 0 ∷ 0 ∷ [];
   sets = 15 ∷ 27 ∷ [];
-  verdict = Consistent;
+  verdict = Ok Consistent;
   lines = ascii "consistent\n";
 }
 
@@ -47,7 +47,7 @@ abbrev pub q5 : TriedPlan
 q5 = record {
   file = 5 ∷ 0 ∷ 1 ∷ 0 ∷ 1 ∷ 2 ∷ 1 ∷ 1 ∷ 1 ∷ 0 ∷ 0 ∷ 2 ∷ 0 ∷ 33 ∷ 0 ∷ 3 ∷ 0 ∷ 0 ∷ 0 ∷ 0 ∷ 0 ∷ 1 ∷ 0 ∷ 6 ∷ 0 ∷ 1 ∷ 0 ∷ 2 ∷ 0 ∷ 0 ∷ 3 ∷ 0 ∷ 0 ∷ 4 ∷ 0 ∷ 6 ∷ 4 ∷ 5 ∷ 6 ∷ 3 ∷ 6 ∷ 3 ∷ 2 ∷ 7 ∷ 2 ∷ 0 ∷ 0 ∷ 3 ∷ 8 ∷ 9 ∷ 1 ∷ 0 ∷ 4 ∷ 0 ∷ 0 ∷ [];
   sets = 29 ∷ [];
-  verdict = Consistent;
+  verdict = Ok Consistent;
   lines = ascii "consistent\n";
 }
 

@@ -9,14 +9,13 @@ use borrow.Author.Tests.{le-ltb}
 use Rattle.judge.specs.Verdict.{work_size}
 use Rattle.class.specs.Outcome as class
 use Rattle.class.specs.Computed.{call_of, answer_of, work_of, area_of}
-use Rattle.class.specs.declared.Answer.{Answer}
 use Rattle.fields.specs.Number.{four_at}
 use Rattle.vectors.specs.Outcome.{answer_held}
 use Rattle.vectors.specs.Classes.{most_lent, area_lent, call_in, held_in, classes_outcome}
 use Rattle.vectors.specs.declared.outcome.Outcome.{Outcome}
 use Rattle.class.proofs.Outcomes.{one_outcome, some_outcome}
 
-pub as_computed : (s work work' old new : List ℕ) (a : Answer) → class.Outcome s work work' old new a
+pub as_computed : (s work work' old new : List ℕ) (a : class.Answer) → class.Outcome s work work' old new a
     → class.Same a (answer_of (call_of s (length work) (length old))) work' (work_of (call_of s (length work) (length old)) work) new (area_of (call_of s (length work) (length old)) old)
 as_computed s work work' old new a h = one_outcome s work work' _ old new _ a _ h (some_outcome s work old)
 

@@ -1,11 +1,12 @@
 -- What a vector of the group `classes` comes to: the number that it expects is held against that of the call on its input, with a work area of the
 -- size due or, where it says so, a byte shorter; and where it is that number, the bytes that it expects in the answer area, which was lent full of
 -- the byte 170, against those that are there: so a byte that must become 0 is seen, and one that must stay.
-use Rattle.std.specs.Prelude.{cond, List, ◌⊎◌, ℕ, ◌+◌, ◌-◌, ◌%◌, ltb, length, get_or, drop, replicate}
+use Rattle.std.specs.Prelude.{cond, List, ℕ, ◌+◌, ◌-◌, ◌%◌, ltb, length, get_or, drop, replicate, Result}
 use Rattle.blocks.specs.Block.{le16}
 use Rattle.judge.specs.Verdict.{work_size}
 use Rattle.class.specs.Outcome.{code_of}
 use Rattle.class.specs.Computed.{call_of, answer_of, area_of}
+use Rattle.class.specs.declared.Refusal.{Refusal}
 use Rattle.fields.specs.Number.{four_at}
 use Rattle.vectors.specs.Outcome.{answer_held}
 use Rattle.vectors.specs.declared.outcome.Outcome.{Outcome}
@@ -18,8 +19,8 @@ most_lent = 2210
 abbrev pub area_lent : List ℕ → ℕ
 area_lent body = le16 body 5
 
--- The call of a body, with an answer area of n bytes and a work area of so many or one less: the number that refuses it, or the files.
-abbrev pub call_in : List ℕ → ℕ → ℕ → ℕ ⊎ List (List ℕ)
+-- The call of a body, with an answer area of n bytes and a work area of so many or one less: why it is refused, or the files.
+abbrev pub call_in : List ℕ → ℕ → ℕ → Result (List (List ℕ)) Refusal
 call_in body n work = call_of (drop (7 + n) body) (work - get_or body 4 0 % 2) n
 
 abbrev pub held_in : List ℕ → ℕ → ℕ → List ℕ → Outcome

@@ -1,6 +1,6 @@
 -- What a vector of the groups `runs` and `hours` comes to: the number of its answers is held against the number of those that agree before the
 -- first that does not. `start_of`, `take_of`, `start_timed_of` and `take_timed_of` are the runner's, of the crate `job`.
-use Rattle.std.specs.Prelude.{Bool, cond, ◌&&◌, List, ℕ, zero, suc, ◌+◌, ◌-◌, ◌/◌, ◌%◌, leb, eqb, length, get_or, take, drop}
+use Rattle.std.specs.Prelude.{Bool, cond, ◌&&◌, List, ℕ, zero, suc, ◌+◌, ◌-◌, ◌/◌, ◌%◌, leb, eqb, length, get_or, take, drop, Option, Some, None}
 use Rattle.blocks.specs.Block.{le16}
 use Rattle.plan.specs.PlanFile.{most_bytes}
 use Rattle.state.specs.declared.Entry.{Entry}
@@ -14,30 +14,35 @@ use Rattle.fields.specs.Jobs.{same_job, left_by}
 use Rattle.vectors.specs.Outcome.{held_against}
 use Rattle.vectors.specs.declared.outcome.Outcome.{Outcome}
 use Rattle.vectors.specs.declared.outcome.Outcome.TheVariants.{Damaged}
-use Rattle.vectors.specs.declared.sessions.Stepped.{Stepped}
 
 -- The runner, asked for the entry e of the job j, has answered as the bytes at `at` say, and handed back the job that they leave: where e was taken,
 -- with the minute m.
 unfoldable pub agrees_at : Taken → Job → Entry → ℕ → List ℕ → ℕ → Bool
 agrees_at t j e m s at = is_answer t.answer s at && same_job (left_by (get_or s at 0) j e m) t.job
 
-abbrev pub stepped_to : Taken → Job → Entry → ℕ → List ℕ → ℕ → Stepped
-stepped_to t j e m s at = record { agrees = agrees_at t j e m s at; job = t.job }
+-- The job that goes on, where they have.
+abbrev pub stepped_to : Taken → Job → Entry → ℕ → List ℕ → ℕ → Option Job
+stepped_to t j e m s at = cond (agrees_at t j e m s at) (Some t.job) None
 
 -- A step is seventeen bytes: 1 for an entry with a minute, the entry, the minute, and the answer to it. Without a minute that of the job stays.
 abbrev pub entry_at : List ℕ → ℕ → Entry
 entry_at s at = record { leaf = get_or s (at + 1) 0; outcome = get_or s (at + 2) 0 }
 
-unfoldable pub stepped : Job → List ℕ → ℕ → Stepped
+unfoldable pub stepped : Job → List ℕ → ℕ → Option Job
 stepped j s at =
     cond (eqb (get_or s at 0) 1)
     (stepped_to (take_timed_of j (entry_at s at) (four_at s (at + 3))) j (entry_at s at) (four_at s (at + 3)) s (at + 7))
     (stepped_to (take_of j (entry_at s at)) j (entry_at s at) j.minute s (at + 7))
 
+-- one step more agrees, where a job goes on, and then as many as from that job on
+abbrev pub one_more : (Job → ℕ) → Option Job → ℕ
+one_more after (Some j) = suc (after j)
+one_more after None = 0
+
 -- of n steps from `at` on, those before the first that does not agree
 unfoldable pub agreeing : ℕ → Job → List ℕ → ℕ → ℕ
 agreeing zero j s at = 0
-agreeing (suc n) j s at = cond (stepped j s at).agrees (suc (agreeing n (stepped j s at).job s (at + 17))) 0
+agreeing (suc n) j s at = one_more (λ k. agreeing n k s (at + 17)) (stepped j s at)
 
 -- Steps from `at` to the end, where `before` answers agree already.
 unfoldable pub steps_outcome : Job → List ℕ → ℕ → ℕ → Outcome

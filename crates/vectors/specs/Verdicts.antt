@@ -2,9 +2,8 @@
 -- areas of the size due or, where it says so, a byte shorter; and where it is that number, the bytes that it expects in the record area, which was
 -- lent full of zeros, against those that are there.
 use Rattle.std.specs.Prelude.{cond, List, ◌++◌, ℕ, ◌-◌, ◌/◌, ◌%◌, ltb, length, get_or, take, drop, replicate}
-use Rattle.judge.specs.Verdict.{work_size, record_size, verdict_of, code_of}
+use Rattle.judge.specs.Verdict.{Answer, work_size, record_size, verdict_of, code_of}
 use Rattle.judge.specs.Record.{record_for}
-use Rattle.judge.specs.declared.Judgement.{Judgement}
 use Rattle.fields.specs.Number.{four_at}
 use Rattle.vectors.specs.Outcome.{answer_held}
 use Rattle.vectors.specs.declared.outcome.Outcome.{Outcome}
@@ -17,7 +16,7 @@ work_lent short = work_size - short % 2
 abbrev pub record_lent : ℕ → ℕ
 record_lent short = record_size - short / 2 % 2
 
-abbrev pub verdict_with : ℕ → List ℕ → Judgement
+abbrev pub verdict_with : ℕ → List ℕ → Answer
 verdict_with short file = verdict_of file (work_lent short) (record_lent short)
 
 -- the 126 bytes of which the record area is all or all but the last

@@ -19,8 +19,8 @@ fn code_in(short: u8, input: &[u8], work: &mut [u8], answers: &mut [u8]) -> u64
     ensures value { result ≡ code_of (answer_of (call_of input.now (length work.old - short % 2) (length answers.old))) }
     ensures answers_after { answers.new ≡ area_of (call_of input.now (length work.old - short % 2) (length answers.old)) answers.old }
 {
-    let w = work.len() - (short % 2) as usize;
-    class::code(class::verdicts(input, &mut work[..w], answers)) as u64
+    let w = work.len() - usize::from(short % 2);
+    u64::from(class::code(class::verdicts(input, &mut work[..w], answers)))
 }
 
 // What a whole body comes to, with the first `n` bytes of `answers` as answer area.
@@ -32,17 +32,14 @@ fn held_in(body: &[u8], n: usize, work: &mut [u8], answers: &mut [u8]) -> Outcom
 {
     let start = 7 + n;
     let found = code_in(body[4], &body[start..], work, &mut answers[..n]);
-    held_answer(four_at(body, 0), found, &answers[..n], body, 7)
+    held_answer(u64::from(four_at(body, 0)), found, &answers[..n], body, 7)
 }
 
 pub fn compare(body: &[u8]) -> Outcome
     ensures { result ≡ classes_outcome body.now }
 {
-    let n = two_at(body, 5) as usize;
-    if n > MOST {
-        return Outcome::Damaged;
-    }
-    if body.len() < 7 + n {
+    let n = usize::from(two_at(body, 5));
+    if n > MOST || body.len() < 7 + n {
         return Outcome::Damaged;
     }
     let mut work = [0u8; 65536];

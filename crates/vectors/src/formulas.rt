@@ -5,7 +5,7 @@ ghost use Rattle.std.specs.Prelude.{◌≡◌};
 ghost use Rattle.vectors.specs.Formulas.{code_of, formulas_outcome};
 
 use crate::outcome::{Outcome, held_answer};
-use fields::number::{four_at, wide};
+use fields::number::four_at;
 use formula::Answer;
 
 // One number for an answer.
@@ -13,8 +13,8 @@ fn code(answer: Answer) -> u64
     ensures { result ≡ code_of answer }
 {
     match answer {
-        Answer::Postfix(n) => n as u64,
-        Answer::Refused(n) => 256 + wide(n),
+        Ok(n) => n as u64,
+        Err(why) => 256 + u64::from(why.number()),
     }
 }
 
@@ -25,7 +25,11 @@ pub fn compare(body: &[u8]) -> Outcome
         return Outcome::Damaged;
     }
     let turned = formula::rule_of(&body[131..]);
-    let answer = turned.answer;
-    let shown = turned.bytes;
-    held_answer(four_at(body, 0), code(answer), &shown, body, 4)
+    held_answer(
+        u64::from(four_at(body, 0)),
+        code(turned.answer),
+        &turned.bytes,
+        body,
+        4,
+    )
 }

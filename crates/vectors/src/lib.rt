@@ -14,7 +14,7 @@ pub mod sessions;
 pub mod verdicts;
 
 // `Hours`: vectors as those of `Runs`, from a data file of their own.
-#[derive(Clone, Copy)]
+#[derive(Clone, Copy, Debug, PartialEq, Eq)]
 pub enum Group {
     Files,
     Runs,
@@ -30,8 +30,7 @@ pub fn compare(group: Group, body: &[u8]) -> Outcome
 {
     match group {
         Group::Files => files::compare(body),
-        Group::Runs => sessions::compare(body),
-        Group::Hours => sessions::compare(body),
+        Group::Runs | Group::Hours => sessions::compare(body),
         Group::Verdicts => verdicts::compare(body),
         Group::Formulas => formulas::compare(body),
         Group::Classes => classes::compare(body),

@@ -3,7 +3,7 @@ ghost use Rattle.std.specs.Prelude.{◌≡◌, ◌+◌, ◌≤◌, length};
 ghost use Rattle.vectors.specs.Outcome.{held_against, alike, answer_held};
 
 // `Damaged`: the data file does not have the vector whole.
-#[derive(Drop)]
+#[derive(Clone, Copy, Debug, PartialEq, Eq)]
 pub enum Outcome {
     Agrees,
     Differs { expected: u64, found: u64 },
@@ -15,9 +15,10 @@ pub fn held(expected: u64, found: u64) -> Outcome
     ensures { result ≡ held_against expected found }
 {
     if expected == found {
-        return Outcome::Agrees;
+        Outcome::Agrees
+    } else {
+        Outcome::Differs { expected, found }
     }
-    Outcome::Differs { expected, found }
 }
 
 // How many of the bytes shown, from the first on, are those of the body from `at` on.
@@ -25,14 +26,9 @@ fn alike(shown: &[u8], body: &[u8], at: usize) -> usize
     requires { at + length shown.now ≤ length body.now }
     ensures { result ≡ alike (length shown.now) 0 shown.now body.now at }
 {
-    let mut i = 0;
-    while i < shown.len() {
-        if shown[i] != body[at + i] {
-            return i;
-        }
-        i += 1;
-    }
-    i
+    (0..shown.len())
+        .find(|&i| shown[i] != body[at + i])
+        .unwrap_or(shown.len())
 }
 
 // A number found and bytes shown are held against the number and the bytes, those of the body from `at` on, that are expected. What differs is told by

@@ -5,46 +5,30 @@
 // each: a byte, 1 for an entry with a minute; the entry; the minute, four bytes; and the answer to it. After a step the job has to be as it was, and
 // where the entry was taken have that entry more and the step's minute, if it has one.
 ghost use Rattle.std.specs.Prelude.{◌≡◌, ◌+◌, ◌*◌, ◌≤◌, length};
-ghost use Rattle.vectors.specs.Runs.{agrees_at, stepped_to, stepped, agreeing, steps_outcome, started_with, session_outcome, timed_outcome, job_at, steps_at, made_up_outcome, runs_outcome};
+ghost use Rattle.vectors.specs.Runs.{stepped_to, stepped, agreeing, steps_outcome, started_with, session_outcome, timed_outcome, job_at, steps_at, made_up_outcome, runs_outcome};
 
 use crate::outcome::{Outcome, held};
 use fields::answer::is_answer;
-use fields::jobs::{left_by, same_job};
+use fields::jobs::left_by;
 use fields::number::{four_at, number_at, two_at};
 use job::{Job, Taken};
 use state::Entry;
 
-// A step's outcome: whether answer and job are those expected, and the job that it leaves.
-#[derive(Drop)]
-pub struct Stepped {
-    pub agrees: bool,
-    pub job: Job,
-}
-
-// Whether the answer taken stands at `at`, and the job handed back is the one that it leaves, with this minute.
-fn agrees(taken: Taken, job: Job, e: Entry, minute: u32, s: &[u8], at: usize) -> bool
-    requires { at + 10 ≤ length s.now }
-    ensures { result ≡ agrees_at taken job e minute s.now at }
-{
-    let answer = taken.answer;
-    let next = taken.job;
-    is_answer(answer, s, at) && same_job(left_by(s[at], job, e, minute), next)
-}
-
-// The outcome of a step whose answer stands at `at`.
-fn step_to(taken: Taken, job: Job, e: Entry, minute: u32, s: &[u8], at: usize) -> Stepped
+// The job that a step leaves, where the answer taken stands at `at` and the job handed back is the one that it leaves, with this minute.
+fn step_to(taken: Taken, job: Job, e: Entry, minute: u32, s: &[u8], at: usize) -> Option<Job>
     requires { at + 10 ≤ length s.now }
     ensures { result ≡ stepped_to taken job e minute s.now at }
 {
-    let next = taken.job;
-    Stepped {
-        agrees: agrees(taken, job, e, minute, s, at),
-        job: next,
+    if is_answer(taken.answer, s, at) && left_by(s[at], job, e, minute) == taken.job {
+        Some(taken.job)
+    } else {
+        None
     }
 }
 
 // The step whose bytes stand at `at`.
-fn step(job: Job, s: &[u8], at: usize) -> Stepped
+#[tactic(auto, unfolding(crate::specs::Runs::stepped))]
+fn step(job: Job, s: &[u8], at: usize) -> Option<Job>
     requires { at + 17 ≤ length s.now }
     ensures { result ≡ stepped job s.now at }
 {
@@ -53,32 +37,28 @@ fn step(job: Job, s: &[u8], at: usize) -> Stepped
         outcome: s[at + 2],
     };
     if s[at] == 1 {
-        let minute = four_at(s, at + 3) as u32;
+        let minute = four_at(s, at + 3);
         return step_to(job.take_at(e, minute), job, e, minute, s, at + 7);
     }
     step_to(job.take(e), job, e, job.minute, s, at + 7)
 }
 
 // Of the `n` steps from `at` on, those before the first that does not agree.
-fn steps(job: Job, s: &[u8], at: usize, n: usize) -> usize
+fn steps(mut job: Job, s: &[u8], at: usize, n: usize) -> usize
     requires { at + 17 * n ≤ length s.now }
     ensures { (result ≡ agreeing n job s.now at) × (result ≤ n) }
 {
-    let mut job = job;
-    let mut i = 0;
-    while i < n {
-        let one = step(job, s, at + 17 * i);
-        if !one.agrees {
+    for i in 0..n {
+        let Some(next) = step(job, s, at + 17 * i) else {
             return i;
-        }
-        let next = one.job;
+        };
         job = next;
-        i += 1;
     }
     n
 }
 
 // Steps from `at` to the end, where `before` answers agree already. What differs is told by the number of answers that agree.
+#[tactic(auto, unfolding(crate::specs::Runs::steps_outcome))]
 fn continued(job: Job, s: &[u8], at: usize, before: u64) -> Outcome
     requires { (at ≤ length s.now) × (before ≤ 1) }
     ensures { result ≡ steps_outcome job s.now at before }
@@ -93,33 +73,34 @@ fn continued(job: Job, s: &[u8], at: usize, before: u64) -> Outcome
 }
 
 // A start whose answer stands at `at`, and steps after it.
+#[tactic(auto, unfolding(crate::specs::Runs::started_with))]
 fn started(taken: Taken, s: &[u8], at: usize) -> Outcome
     requires { at + 10 ≤ length s.now }
     ensures { result ≡ started_with taken s.now at }
 {
-    let answer = taken.answer;
-    let job = taken.job;
-    if !is_answer(answer, s, at) {
+    if !is_answer(taken.answer, s, at) {
         return held(1, 0);
     }
-    continued(job, s, at + 10, 1)
+    continued(taken.job, s, at + 10, 1)
 }
 
+#[tactic(auto, unfolding(crate::specs::Runs::session_outcome))]
 fn session(s: &[u8]) -> Outcome
     ensures { result ≡ session_outcome s.now }
 {
-    let end = 3 + two_at(s, 1) as usize;
+    let end = 3 + usize::from(two_at(s, 1));
     if s.len() < end + 10 {
         return Outcome::Damaged;
     }
     started(Job::start(&s[3..end]), s, end)
 }
 
+#[tactic(auto, unfolding(crate::specs::Runs::timed_outcome))]
 fn timed_session(s: &[u8]) -> Outcome
     ensures { result ≡ timed_outcome s.now }
 {
-    let middle = 5 + two_at(s, 1) as usize;
-    let end = middle + two_at(s, 3) as usize;
+    let middle = 5 + usize::from(two_at(s, 1));
+    let end = middle + usize::from(two_at(s, 3));
     if s.len() < end + 10 {
         return Outcome::Damaged;
     }
@@ -151,9 +132,9 @@ fn job_at(s: &[u8]) -> Job
     let mut file = [0u8; plan::MOST_BYTES];
     let mut entries = [0u8; 126];
     let mut windows = [0u8; job::MOST_WINDOWS];
-    blocks::copy(&mut file, 0, &s[1..LENGTH_AT]);
-    blocks::copy(&mut entries, 0, &s[RECORD_AT..TAKEN_AT]);
-    blocks::copy(&mut windows, 0, &s[WINDOWS_AT..WINDOWS_LENGTH_AT]);
+    file.copy_from_slice(&s[1..LENGTH_AT]);
+    entries.copy_from_slice(&s[RECORD_AT..TAKEN_AT]);
+    windows.copy_from_slice(&s[WINDOWS_AT..WINDOWS_LENGTH_AT]);
     Job {
         file,
         file_len: number_at(s, LENGTH_AT) as usize,
@@ -162,10 +143,11 @@ fn job_at(s: &[u8]) -> Job
         timed: s[TIMED_AT] == 1,
         windows,
         windows_len: number_at(s, WINDOWS_LENGTH_AT) as usize,
-        minute: four_at(s, MINUTE_AT) as u32,
+        minute: four_at(s, MINUTE_AT),
     }
 }
 
+#[tactic(auto, unfolding(crate::specs::Runs::made_up_outcome))]
 fn made_up(s: &[u8]) -> Outcome
     ensures { result ≡ made_up_outcome s.now }
 {
@@ -178,14 +160,10 @@ fn made_up(s: &[u8]) -> Outcome
 pub fn compare(body: &[u8]) -> Outcome
     ensures { result ≡ runs_outcome body.now }
 {
-    if body.len() == 0 {
-        return Outcome::Damaged;
+    match body.first() {
+        None => Outcome::Damaged,
+        Some(0) => session(body),
+        Some(2) => timed_session(body),
+        Some(_) => made_up(body),
     }
-    if body[0] == 0 {
-        return session(body);
-    }
-    if body[0] == 2 {
-        return timed_session(body);
-    }
-    made_up(body)
 }

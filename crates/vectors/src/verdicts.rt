@@ -15,9 +15,9 @@ fn code_in(short: u8, file: &[u8], work: &mut [u8], record: &mut [u8]) -> u64
     ensures value { result ≡ code_of (verdict_of file.now (length work.old - short % 2) (length «record».old - short / 2 % 2)) }
     ensures record_after { «record».new ≡ record_for file.now (verdict_of file.now (length work.old - short % 2) (length «record».old - short / 2 % 2)) (take (length «record».old - short / 2 % 2) «record».old) ++ drop (length «record».old - short / 2 % 2) «record».old }
 {
-    let w = work.len() - (short % 2) as usize;
-    let r = record.len() - (short / 2 % 2) as usize;
-    judge::code(judge::verdict(file, &mut work[..w], &mut record[..r])) as u64
+    let w = work.len() - usize::from(short % 2);
+    let r = record.len() - usize::from(short / 2 % 2);
+    u64::from(judge::code(judge::verdict(file, &mut work[..w], &mut record[..r])))
 }
 
 pub fn compare(body: &[u8]) -> Outcome
@@ -29,5 +29,5 @@ pub fn compare(body: &[u8]) -> Outcome
     let mut work = [0u8; 65536];
     let mut shown = [0u8; 126];
     let found = code_in(body[4], &body[131..], &mut work, &mut shown);
-    held_answer(four_at(body, 0), found, &shown, body, 5)
+    held_answer(u64::from(four_at(body, 0)), found, &shown, body, 5)
 }

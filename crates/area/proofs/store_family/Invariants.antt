@@ -1,10 +1,6 @@
 -- `area::store_family` meets its contract: the words passed are written (`Writing`).
-use Prim.Native.Nat.{◌-◌, ◌≤◌}
 use Rattle.area.proofs.Areas.{Writing}
 use Rattle.area.proofs.store_family.Given as goal
 
 abbrev pub invariant-loop-i : goal.invariant-loop-i
-invariant-loop-i l = (l.i ≤ 16) × Writing l.initial.area l.at l.f l.i l.area
-
-abbrev pub decreases-loop-i : goal.decreases-loop-i
-decreases-loop-i l = 16 - l.i
+invariant-loop-i l = Writing l.initial.area l.at l.f l.i l.area

@@ -24,8 +24,8 @@ overflow_add-end c = omega (arith, cursor c.args.input.now c.args.answers.now c.
 pub slice_bounds-fill-end : goal.slice_bounds-fill-end
 slice_bounds-fill-end c = omega (arith, cursor c.args.input.now c.args.answers.now c.loop-at.at c.loop-at.to c.loop-at.answers c.loop-at.invariant.1 (omega arith), c.number_at.ensures.0)
 
-pub fill-requires : goal.fill-requires
-fill-requires c =
+pub fill-cleared-requires : goal.fill-cleared-requires
+fill-cleared-requires c =
     let l = c.loop-at in
     record {
       work_size_in_bounds = rw l.invariant.0 (omega (arith, left_long l.cleared c.args.work.now c.requires.work_size_in_bounds, c.requires.work_size_in_bounds));
@@ -41,8 +41,8 @@ pub loop-at-preserved : goal.loop-at-preserved
 loop-at-preserved c =
     let l = c.loop-at in
     let n = c.number_at in
-    let f = c.fill in (
-      f.ensures.work_after ∙ ap (work_left f.result) l.invariant.0 ∙ left_more l.cleared f.result c.args.work.now ∙ ap (λ (x : Bool). work_left x c.args.work.now) (sym c.either-cleared.ensures),
+    let f = c.fill-cleared in (
+      f.ensures.work_after ∙ ap (work_left f.result) l.invariant.0 ∙ left_more l.cleared f.result c.args.work.now,
       sofar_more c.args.input.now c.args.answers.now l.at l.to l.answers l.invariant.1 (omega arith) (l.at + 2 + n.result) (ap (λ k. l.at + 2 + k) n.ensures.0) f.new.part f.ensures.place_after,
     )
 

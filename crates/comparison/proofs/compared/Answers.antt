@@ -1,53 +1,69 @@
--- `comparison::compared` meets its contract. The invariant: what is left to compare, from where it stands, comes to what the whole comes to;
--- and the counts stay within the number of vectors.
-use mathlib.Core.Path.{refl, sym, ap, ◌∙◌}
+-- `comparison::compared` meets its contract.
+use mathlib.Core.Path.{◌≡◌, refl, sym, ap, ◌∙◌}
 use mathlib.Core.Bool.{Bool}
-use borrow.Author.Tests.{not-true, not-false}
-use Rattle.comparison.specs.Data.{counted}
-use Rattle.comparison.specs.declared.Comparison.{Comparison}
-use Rattle.comparison.proofs.Vectors.{grows, counted_whole, goes_on, stops, at_end, not_at_end, too_short, all_compared}
+use Prim.Native.Nat.{◌+◌, ◌-◌}
 use native.Mathlib.Omega.{arith}
+use Rattle.comparison.specs.Data.{after, counted}
+use Rattle.comparison.specs.declared.Comparison.{Comparison}
+use Rattle.comparison.proofs.Vectors.{too_short, lies, lies_not, whole_says, outcome_there, damaged_there, grows, goes_on, stops, ends, all_compared}
 use Rattle.comparison.proofs.compared.Goals as goal
 
 abbrev whole : Comparison → Bool
 whole c = c.whole
 
-pub returns-then-s-lt4 : goal.returns-then-s-lt4
-returns-then-s-lt4 c =
-    too_short _ _ _ _ c.if-s-lt4.true c.start-c.ensures c.mark_damaged.ensures
-
-pub loop-left-init : goal.loop-left-init
-loop-left-init c =
-    (rw c.start-c.ensures (omega arith), rw c.start-c.ensures (omega (arith, c.four_at-left.ensures.1)), refl)
-
-pub count-c-requires : goal.count-c-requires
-count-c-requires c = (omega arith, omega arith)
-
 pub returns-then-not-c : goal.returns-then-not-c
-returns-then-not-c c =
-    let is = c.count-c.ensures ∙ ap (counted c.loop-left.c c.loop-left.at) c.outcome_at.ensures in
-    all_compared _ _ _ _ _ c.if-s-lt4.false c.four_at-left.ensures.0 c.start-c.ensures
-    (c.loop-left.invariant.2 ∙ (stops _ _ _ _ _ c.loop-left-test.true (ap whole (sym is) ∙ not-true _ c.if-not-c.true) ∙ sym is))
+returns-then-not-c c = rw c.if-not-c.true (too_short c.args.group c.args.s.now c.if-not-c.true)
 
-pub end_of-at-requires : goal.end_of-at-requires
-end_of-at-requires c =
-    let is = c.count-c.ensures ∙ ap (counted c.loop-left.c c.loop-left.at) c.outcome_at.ensures in
-    counted_whole _ _ _ c.loop-left.c (ap whole (sym is) ∙ not-false _ c.if-not-c.false)
+pub vectors-init : goal.vectors-init
+vectors-init c =
+    let n = c.four_at-end.result in
+    let e : n - 0 ≡ n = omega arith in
+    record { whole = c.if-not-c.false; agree = omega arith; few = omega arith; same = rw (c.if-not-c.false, e) }
 
-pub loop-left-smaller : goal.loop-left-smaller
-loop-left-smaller c = omega arith
+pub returns-in_default : goal.returns-in_default
+returns-in_default c =
+    let a = c.args in
+    let v = c.vectors in
+    let d = damaged_there a.group a.s.now v.at v.c (lies_not a.s.now v.at (sym c.body_at.ensures ∙ c.in_default.is)) in
+    all_compared a.group a.s.now c.four_at-end.result _ c.if-not-c.false c.four_at-end.ensures
+    (v.invariant.same ∙ (stops a.group a.s.now v.at v.c (c.four_at-end.result - v.counter) (omega arith) (ap whole d) ∙ d))
 
-pub loop-left-preserved : goal.loop-left-preserved
-loop-left-preserved c =
-    let is = c.count-c.ensures ∙ ap (counted c.loop-left.c c.loop-left.at) c.outcome_at.ensures in
-    let g = grows c.loop-left.c c.loop-left.at c.outcome_at.result c.loop-left.invariant.0 in
-    let on = goes_on _ _ _ c.loop-left.c _ c.loop-left-test.true (ap whole (sym is) ∙ not-false _ c.if-not-c.false) in
-    (rw c.count-c.ensures g.agree, rw c.count-c.ensures (omega (arith, g.most)), c.loop-left.invariant.2 ∙ (on ∙ rw (c.end_of-at.ensures.0, is)))
+pub slice_bounds-compare-end : goal.slice_bounds-compare-end
+slice_bounds-compare-end c =
+    let (all, start, end) = lies c.args.s.now c.vectors.at c.in-Some.start c.in-Some.end (sym c.body_at.ensures ∙ c.in-Some.is) in
+    omega (arith, (whole_says _ _ all).1, start, end)
 
-pub returns-then-at-s : goal.returns-then-at-s
-returns-then-at-s c =
-    all_compared _ _ _ _ _ c.if-s-lt4.false c.four_at-left.ensures.0 c.start-c.ensures (c.loop-left.invariant.2 ∙ at_end _ _ _ c.loop-left.c _ c.loop-left-test.false c.if-at-s.true)
+pub count-requires : goal.count-requires
+count-requires c = (c.vectors.invariant.agree, omega (arith, c.vectors.invariant.few))
+
+pub vectors-preserved : goal.vectors-preserved
+vectors-preserved c =
+    let a = c.args in
+    let v = c.vectors in
+    let n = c.four_at-end.result in
+    let (all, start, end) = lies a.s.now v.at c.in-Some.start c.in-Some.end (sym c.body_at.ensures ∙ c.in-Some.is) in
+    let is : c.count.new.self ≡ after a.group a.s.now v.at v.c = c.count.ensures ∙ ap (counted v.c v.at) (c.compare.ensures ∙ outcome_there a.group a.s.now v.at _ _ all start end) in
+    let g = grows v.c v.at c.compare.result v.invariant.agree in
+    let k : n - v.counter - 1 ≡ n - (v.counter + 1) = omega arith in
+    let on = goes_on a.group a.s.now v.at v.c (n - v.counter) (omega arith) (ap whole (sym is) ∙ c.if-not-c-2.false) in record {
+      whole = c.if-not-c-2.false;
+      agree = rw c.count.ensures g.agree;
+      few = rw c.count.ensures (omega (arith, g.most, v.invariant.few));
+      same = v.invariant.same ∙ (on ∙ rw (k, end, is));
+    }
+
+pub returns-then-not-c-2 : goal.returns-then-not-c-2
+returns-then-not-c-2 c =
+    let a = c.args in
+    let v = c.vectors in
+    let (all, start, end) = lies a.s.now v.at c.in-Some.start c.in-Some.end (sym c.body_at.ensures ∙ c.in-Some.is) in
+    let is : c.count.new.self ≡ after a.group a.s.now v.at v.c = c.count.ensures ∙ ap (counted v.c v.at) (c.compare.ensures ∙ outcome_there a.group a.s.now v.at _ _ all start end) in
+    all_compared a.group a.s.now c.four_at-end.result _ c.if-not-c.false c.four_at-end.ensures
+    (v.invariant.same ∙ (stops a.group a.s.now v.at v.c (c.four_at-end.result - v.counter) (omega arith) (ap whole (sym is) ∙ c.if-not-c-2.true) ∙ sym is))
 
 pub returns : goal.returns
 returns c =
-    all_compared _ _ _ _ _ c.if-s-lt4.false c.four_at-left.ensures.0 c.start-c.ensures (c.loop-left.invariant.2 ∙ (not_at_end _ _ _ c.loop-left.c _ c.loop-left-test.false c.if-at-s.false ∙ sym c.mark_damaged-2.ensures))
+    let a = c.args in
+    let v = c.vectors in
+    all_compared a.group a.s.now c.four_at-end.result _ c.if-not-c.false c.four_at-end.ensures
+    (v.invariant.same ∙ ends a.group a.s.now v.at v.c (c.four_at-end.result - v.counter) (omega arith) v.invariant.whole)

@@ -2,9 +2,5 @@
 use Rattle.formula.proofs.Turning as turning
 use Rattle.formula.proofs.read.Goals as goal
 
-pub implication-end-requires : goal.implication-end-requires
-implication-end-requires c = tt
-
 pub returns : goal.returns
-returns c =
-    turning.read c.requires.becomes c.requires.n_bound c.implication-end.ensures
+returns c = turning.read c.requires.becomes c.requires.n_bound c.implication.ensures

@@ -4,25 +4,15 @@ use native.Mathlib.Omega.{arith}
 use Rattle.formula.proofs.Turning as turning
 use Rattle.formula.proofs.rule_of.Goals as goal
 
-pub count_of-requires : goal.count_of-requires
-count_of-requires c = tt
+pub returns-in-None : goal.returns-in-None
+returns-in-None c = c.refused.ensures ∙ sym (turning.outside_14 _ (turning.is_outside _ (sym c.count_of.ensures ∙ c.in-None.is)))
 
-pub refused-requires : goal.refused-requires
-refused-requires c = tt
-
-pub refused-requires-then-n-gt127 : goal.refused-requires-then-n-gt127
-refused-requires-then-n-gt127 c = tt
-
-pub returns-then-n-gt127 : goal.returns-then-n-gt127
-returns-then-n-gt127 c =
-    let b = turning.becomes _ _ (sym c.count_of.ensures ∙ c.in-Bytes.is) in
+pub returns-in-Some : goal.returns-in-Some
+returns-in-Some c =
+    let b = turning.becomes _ _ (sym c.count_of.ensures ∙ c.in-Some.is) in
     let e = b.bytes in
-    let h = c.if-n-gt127.true in
-    c.refused-then-n-gt127.ensures ∙ sym (turning.too_long _ b.postfix b.typed (omega arith))
+    let h = c.if-n-gt-ROOM.true in
+    c.refused-in-Some.ensures ∙ sym (turning.too_long _ b.postfix b.typed (omega arith))
 
-pub read-requires : goal.read-requires
-read-requires c =
-    record { becomes = turning.becomes _ _ (sym c.count_of.ensures ∙ c.in-Bytes.is); n_bound = c.if-n-gt127.false }
-
-pub returns-in-Outside : goal.returns-in-Outside
-returns-in-Outside c = c.refused.ensures ∙ sym (turning.outside_14 _ (turning.is_outside _ (sym c.count_of.ensures ∙ c.in-Outside.is)))
+pub read-requires-clause-becomes : goal.read-requires-clause-becomes
+read-requires-clause-becomes c = turning.becomes _ _ (sym c.count_of.ensures ∙ c.in-Some.is)

@@ -1,4 +1,4 @@
--- `class::count_files` meets its contract. The invariant: the files of the input are n, and then those from the cursor on (`Counting`).
+-- `handed::count_files` meets its contract. The invariant: the files of the input are n, and then those from the cursor on (`Counting`).
 use Prim.Native.Nat.{◌-◌}
 use lib.ListN.{length}
 use Rattle.handed.proofs.Files.{Counting}

@@ -1,4 +1,4 @@
--- `class::end_of` meets its contract: the two tests are that length and file are there.
+-- `handed::end_of` meets its contract: the two tests are that length and file are there.
 use mathlib.Core.Path.{ap}
 use Prim.Native.Nat.{◌+◌}
 use native.Mathlib.Omega.{arith}

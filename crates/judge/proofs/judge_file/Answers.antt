@@ -1,28 +1,29 @@
 -- `judge::judge_file` meets its contract: the bodies lie inside the file, the plan is judged, the areas are written; `File` joins these.
-use Rattle.plan.proofs.Inside.{types_inside, pairs_inside, nodes_inside, rule_inside}
-use Rattle.plan.proofs.Demand1.{runnable}
+use mathlib.Core.Path.{sym}
+use native.Mathlib.Omega.{arith}
+use lib.Seq.{length-take-le}
+use Rattle.plan.proofs.Inside.{pairs_inside, rule_inside}
+use Rattle.judge.proofs.Areas.{all_zeros}
 use Rattle.judge.proofs.File.{judged_file}
 use Rattle.judge.proofs.judge_file.Goals as goal
 
-pub part_of-requires : goal.part_of-requires
-part_of-requires c = types_inside c.args.file.now c.args.l c.requires.0
+pub part_of-pairs-requires : goal.part_of-pairs-requires
+part_of-pairs-requires c = pairs_inside c.args.file.now c.args.l c.requires.0
 
-pub part_of-requires-2 : goal.part_of-requires-2
-part_of-requires-2 c = pairs_inside c.args.file.now c.args.l c.requires.0
+pub part_of-rule-requires : goal.part_of-rule-requires
+part_of-rule-requires c = rule_inside c.args.file.now c.args.l c.requires.0
 
-pub part_of-requires-3 : goal.part_of-requires-3
-part_of-requires-3 c = nodes_inside c.args.file.now c.args.l c.requires.0
+pub slice_bounds-fill-end-2 : goal.slice_bounds-fill-end-2
+slice_bounds-fill-end-2 c = sym (length-take-le 65536 c.judge-judgement.new.work (omega (arith, c.judge-judgement.ensures.long)))
 
-pub part_of-requires-4 : goal.part_of-requires-4
-part_of-requires-4 c = rule_inside c.args.file.now c.args.l c.requires.0
-
-pub judge-j-requires : goal.judge-j-requires
-judge-j-requires c =
-    (rw (c.part_of.ensures, c.part_of-3.ensures) (runnable c.args.file.now c.args.l c.requires.0), c.requires.1)
+pub copy_from_slice-requires : goal.copy_from_slice-requires
+copy_from_slice-requires c = omega (arith, length-take-le 126 c.args.shown.now c.requires.2)
 
 pub returns : goal.returns
 returns c =
     let a = c.args in
-    rw (c.clear.ensures.dst_after, c.copy.ensures.dst_after)
-    (judged_file a.file.now a.l c.requires.0 a.work.now c.judge-j.new.work a.shown.now c.judge-j.result.run c.requires.1 c.requires.2 c.judge-j.result.judgement
-    (rw (← c.part_of.ensures, ← c.part_of-2.ensures, ← c.part_of-3.ensures, ← c.part_of-4.ensures) c.judge-j.ensures))
+    let j = c.judge-judgement in
+    let zeros = all_zeros 65536 j.new.work c.fill.new.self (omega (arith, j.ensures.long)) (c.fill.ensures.after (λ y k. k)) in
+    rw c.copy_from_slice.ensures.after
+    (judged_file a.file.now a.l c.requires.0 a.work.now j.new.work a.shown.now _ _ c.requires.1 c.requires.2 zeros _
+    (rw (← c.process-process.ensures.types, ← c.process-process.ensures.nodes, ← c.part_of-pairs.ensures, ← c.part_of-rule.ensures) j.ensures))

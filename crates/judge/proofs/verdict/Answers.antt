@@ -14,19 +14,3 @@ pub returns-then-record-lt-RECORD : goal.returns-then-record-lt-RECORD
 returns-then-record-lt-RECORD c =
     let a = c.args in
     record { answer = sym (short_record a.file.now (length a.work.now) (length a.«record».now) (omega arith) (omega arith)); area_after = refl; record_after = refl }
-
-pub judge_file-requires : goal.judge_file-requires
-judge_file-requires c =
-    (sym c.in-Accepted.ensures, omega arith, omega arith)
-
-pub returns-in-Refused : goal.returns-in-Refused
-returns-in-Refused c =
-    let a = c.args in
-    record {
-      answer = sym (refused_file a.file.now (length a.work.now) (length a.«record».now) (omega arith) (omega arith) _ (sym c.in-Refused.ensures));
-      area_after = refl;
-      record_after = refl;
-    }
-
-pub returns-in-Accepted : goal.returns-in-Accepted
-returns-in-Accepted c = c.judge_file.ensures

@@ -1,12 +1,6 @@
 -- `nodes::nested_ok` meets its contract: the table of the nodes passed is filled, and none of them is too deep.
-use mathlib.Core.Path.{◌≡◌}
-use Prim.Native.Nat.{◌-◌}
-use Rattle.nodes.specs.Nodes.{count}
 use Rattle.nodes.proofs.Nested.{Kept}
 use Rattle.nodes.proofs.nested_ok.Given as goal
 
 abbrev pub invariant-loop-i : goal.invariant-loop-i
-invariant-loop-i l = (l.n ≡ count l.b) × Kept l.b 63 l.i l.depths
-
-abbrev pub decreases-loop-i : goal.decreases-loop-i
-decreases-loop-i l = l.n - l.i
+invariant-loop-i l = Kept l.b 63 l.i l.depths

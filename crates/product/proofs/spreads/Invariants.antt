@@ -1,10 +1,7 @@
 -- `product::spreads` meets its contract: after k turns the table is right below 2 ^ k.
-use Prim.Native.Nat.{◌-◌, ◌^◌, ◌≤◌}
+use Prim.Native.Nat.{◌^◌}
 use Rattle.product.specs.Steps.{Spreads}
 use Rattle.product.proofs.spreads.Given as goal
 
 abbrev pub invariant-loop-k : goal.invariant-loop-k
-invariant-loop-k l = (l.k ≤ 6) × Spreads l.w (2 ^ l.k) l.s
-
-abbrev pub decreases-loop-k : goal.decreases-loop-k
-decreases-loop-k l = 6 - l.k
+invariant-loop-k l = Spreads l.w (2 ^ l.k) l.s

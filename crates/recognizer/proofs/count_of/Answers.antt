@@ -1,37 +1,23 @@
 -- `recognizer::count_of` meets its contract.
-use native.Mathlib.Omega.{arith}
-use borrow.Author.Tests.{not-true, not-false}
+use mathlib.Core.Path.{◌∙◌}
 use Rattle.recognizer.proofs.Along as along
-use Rattle.recognizer.proofs.Along.{Passing}
 use Rattle.recognizer.proofs.count_of.Goals as goal
 
-pub loop-t-init : goal.loop-t-init
-loop-t-init c = along.start _ _ c.next_token-t.ensures
+pub loop-pass-init : goal.loop-pass-init
+loop-pass-init c = along.start _
 
-pub step-p-requires : goal.step-p-requires
-step-p-requires c =
-    let i = c.loop-t.invariant in
-    let m = i.most in
-    let n = i.within in
-    let g = c.type_inv.text in
-    omega arith
+pub returns-in-Wrong : goal.returns-in-Wrong
+returns-in-Wrong c = c.ended.ensures ∙ along.ends_here c.loop-pass.invariant c.next_token-next.ensures c.in-Wrong.is
 
-pub returns-then-not-p : goal.returns-then-not-p
-returns-then-not-p c =
-    let l = c.loop-t in
-    along.lost _ l.p l.at l.t l.invariant c.loop-t-test.true (rw c.step-p.ensures at (not-true c.step-p.result.going c.if-not-p.true))
+pub returns-in_err-pass-in_default : goal.returns-in_err-pass-in_default
+returns-in_err-pass-in_default c =
+    let d = c.in_default in
+    c.from_residual.ensures ∙ along.stops_here c.loop-pass.invariant c.next_token-next.ensures d.not-Wrong d.not-End c.step.ensures c.in_err-pass-in_default.was
 
-pub loop-t-smaller : goal.loop-t-smaller
-loop-t-smaller c =
-    let l = c.loop-t in
-    along.less _ l.p l.at l.t l.invariant c.loop-t-test.true
+pub loop-pass-smaller : goal.loop-pass-smaller
+loop-pass-smaller c = along.less_left c.loop-pass.invariant c.next_token-next.ensures c.in_default.not-Wrong c.in_default.not-End
 
-pub loop-t-preserved : goal.loop-t-preserved
-loop-t-preserved c =
-    let l = c.loop-t in
-    rw c.step-p.ensures (along.step _ l.p l.at l.t _ l.invariant c.loop-t-test.true (rw c.step-p.ensures at (not-false c.step-p.result.going c.if-not-p.false)) c.next_token-t-in-loop-t.ensures)
-
-pub returns : goal.returns
-returns c =
-    let l = c.loop-t in
-    rw c.counted.ensures (along.finish _ l.p l.at l.t l.invariant c.loop-t-test.false)
+pub loop-pass-preserved : goal.loop-pass-preserved
+loop-pass-preserved c =
+    let d = c.in_default in
+    along.goes_on c.loop-pass.invariant c.next_token-next.ensures d.not-Wrong d.not-End c.step.ensures c.in_ok-pass-in_default.was

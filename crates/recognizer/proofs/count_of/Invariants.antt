@@ -4,8 +4,8 @@ use lib.ListN.{length}
 use Rattle.recognizer.proofs.Along.{Passing}
 use Rattle.recognizer.proofs.count_of.Given as goal
 
-abbrev pub invariant-loop-t : goal.invariant-loop-t
-invariant-loop-t l = Passing l.text l.p l.at l.t
+abbrev pub invariant-loop-pass : goal.invariant-loop-pass
+invariant-loop-pass l = Passing l.text l.pass l.at
 
-abbrev pub decreases-loop-t : goal.decreases-loop-t
-decreases-loop-t l = length l.text - l.at
+abbrev pub decreases-loop-pass : goal.decreases-loop-pass
+decreases-loop-pass l = length l.text - l.at

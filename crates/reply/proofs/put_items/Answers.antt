@@ -6,31 +6,15 @@ use Rattle.text.proofs.Ends.{each_step, each_end}
 use Rattle.reply.specs.Line.{item_at}
 use Rattle.reply.proofs.put_items.Goals as goal
 
-pub loop-i-init : goal.loop-i-init
-loop-i-init c =
-    let e : min c.args.n 127 - 0 ≡ min c.args.n 127 = omega arith in
-    (omega arith, rw e)
-
-pub returns-then-i-n : goal.returns-then-i-n
-returns-then-i-n c =
-    let at = c.loop-i in
-    let a = c.args in
-    sym (at.invariant.1 ∙ each_end at.grown (item_at a.bytes) (min a.n 127) at.i (omega arith))
-
-pub overflow_add-i : goal.overflow_add-i
-overflow_add-i c = omega arith
-
-pub loop-i-smaller : goal.loop-i-smaller
-loop-i-smaller c = omega arith
-
 pub loop-i-preserved : goal.loop-i-preserved
 loop-i-preserved c =
     let at = c.loop-i in
     let a = c.args in
-    (omega arith, at.invariant.1 ∙ (each_step at.grown (item_at a.bytes) (min a.n 127) at.i (omega arith) ∙ rw c.put_item-grown.ensures))
+    at.invariant ∙ (each_step at.t (item_at a.bytes.now) (min a.n 127) at.i (omega arith) ∙ rw c.put_item.ensures)
 
 pub returns : goal.returns
 returns c =
     let at = c.loop-i in
     let a = c.args in
-    sym (at.invariant.1 ∙ each_end at.grown (item_at a.bytes) (min a.n 127) at.i (omega arith))
+    let e : min a.n 127 - 0 ≡ min a.n 127 = omega arith in
+    sym (rw e at (at.invariant ∙ each_end at.t (item_at a.bytes.now) (min a.n 127) at.i (omega arith)))

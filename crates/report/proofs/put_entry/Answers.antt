@@ -8,4 +8,4 @@ use Rattle.report.proofs.put_entry.Goals as goal
 pub returns : goal.returns
 returns c =
     let a = c.args in
-    cc (appended_both a.t (decimal a.leaf) (32 ∷ line (decimal a.outcome)))
+    cc (appended_both a.t.now (decimal a.leaf) (32 ∷ line (decimal a.outcome)))

@@ -1,25 +1,13 @@
 -- `rule::satisfying` meets its contract: the places hold stacks from which the bytes that are left give what the whole rule gives.
-use native.Mathlib.Omega.{arith}
+use Rattle.std.proofs.Common.{arith}
 use Rattle.rule.proofs.Scan.{scanned_none, scanned_more, scanned_all}
 use Rattle.rule.proofs.satisfying.Goals as goal
 
-pub loop-i-init : goal.loop-i-init
-loop-i-init c =
-    let a = c.args in
-    (omega arith, omega arith, λ pairs m. scanned_none a.rule.now pairs a.w)
+pub loop-t-init : goal.loop-t-init
+loop-t-init c = λ pairs m. scanned_none c.args.rule.now pairs c.args.w _ c.new-stack.ensures.0
 
-pub overflow_add-i : goal.overflow_add-i
-overflow_add-i c = omega arith
-
-pub loop-i-smaller : goal.loop-i-smaller
-loop-i-smaller c = omega arith
-
-pub loop-i-preserved : goal.loop-i-preserved
-loop-i-preserved c =
-    let a = c.args in
-    (omega arith, c.stepped-top.ensures.inside, λ pairs m. scanned_more a.rule.now pairs a.w (c.loop-i.invariant.2 pairs m) (omega arith) m c.stepped-top.ensures)
+pub loop-t-preserved : goal.loop-t-preserved
+loop-t-preserved c = λ pairs m. scanned_more c.args.rule.now pairs c.args.w (c.loop-t.invariant pairs m) (omega arith) m c.step.ensures
 
 pub returns : goal.returns
-returns c = λ pairs m.
-    let a = c.args in
-    scanned_all a.rule.now pairs a.w (c.loop-i.invariant.2 pairs m) c.loop-i.invariant.1 (omega arith)
+returns c = λ pairs m. rw c.pop.ensures.value (scanned_all c.args.rule.now pairs c.args.w (c.loop-t.invariant pairs m) (omega arith))

@@ -1,12 +1,7 @@
--- `run::piece` meets its contract: what the whole does to the session is what is left of it does to the session so far.
-use mathlib.Core.Path.{◌≡◌}
-use Prim.Native.Nat.{◌-◌, ◌≤◌}
-use lib.ListN.{length, drop}
+-- What is left of the bytes does to the session so far what all of them do to the first.
+use Rattle.std.proofs.Common.{◌≡◌, drop}
 use Rattle.session.specs.Session.{heard_all}
 use Rattle.run.proofs.piece.Given as goal
 
-abbrev pub invariant-loop-i : goal.invariant-loop-i
-invariant-loop-i l = (l.i ≤ length l.bytes) × (heard_all l.initial.turn.session l.bytes ≡ heard_all l.turn.session (drop l.i l.bytes))
-
-abbrev pub decreases-loop-i : goal.decreases-loop-i
-decreases-loop-i l = length l.bytes - l.i
+abbrev pub invariant-loop-b : goal.invariant-loop-b
+invariant-loop-b l = heard_all l.initial.session l.bytes ≡ heard_all l.session (drop l.b-index l.bytes)

@@ -1,12 +1,12 @@
 -- `sets::leaf` meets its contract.
-use Rattle.sets.proofs.Nodes.{action_small, leaf_exact}
+use Rattle.plan.proofs.Runnable.{runnable_of}
+use Rattle.sets.proofs.Nodes.{leaf_exact}
 use Rattle.sets.proofs.leaf.Goals as goal
 
-pub set_of-requires : goal.set_of-requires
-set_of-requires c =
-    (c.requires.1, action_small c.args.types.now c.args.nodes.now c.requires.0 c.args.n c.requires.1)
+pub leaf_type-kind-requires : goal.leaf_type-kind-requires
+leaf_type-kind-requires c = ((runnable_of c.args.process.now.runnable).nodes_hold.keep, c.requires.0)
 
 pub returns : goal.returns
 returns c =
-    leaf_exact c.args.types.now c.args.nodes.now c.requires.0 c.args.n c.requires.1 c.leaf.result c.requires.2
-    (rw (← c.leaf_type-kind.ensures, ← c.set_of.ensures) c.leaf.ensures)
+    let p = c.args.process.now in
+    leaf_exact p.types.now p.nodes.now (runnable_of p.runnable) c.args.n c.requires.0 c.leaf.result c.requires.1 (rw (← c.leaf_type-kind.ensures, ← c.set_of.ensures) c.leaf.ensures)

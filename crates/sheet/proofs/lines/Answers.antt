@@ -7,14 +7,14 @@ use mathlib.Core.List.{List, ◌++◌}
 use Prim.Native.Nat.{ℕ}
 use Rattle.text.specs.Text.{appended}
 use Rattle.text.proofs.Ends.{put_both, put_alone}
-use Rattle.report.specs.Lines.{verdict_lines}
+use Rattle.report.specs.Lines.{told_lines}
 use Rattle.sheet.specs.Lines.{plan_line, plan_lines}
 use Rattle.sheet.proofs.Lengths.{plan_room}
 use native.Mathlib.Omega.{arith}
 use Rattle.sheet.proofs.lines.Goals as goal
 
 pub returns-then-place-lt-PLACE : goal.returns-then-place-lt-PLACE
-returns-then-place-lt-PLACE c = rw (lt-ltb _ _ c.if-place-lt-PLACE.true) c.empty.ensures
+returns-then-place-lt-PLACE c = rw (lt-ltb _ _ c.if-place-lt-PLACE.true) c.new-t.ensures
 
 pub returns : goal.returns
 returns c =
@@ -23,6 +23,6 @@ returns c =
     let h = c.if-place-lt-PLACE.false in
     let enough = le-ltb (length p) place_size (omega arith) in
     let room = plan_room p (omega arith) (λ k l. omega (arith, c.type_inv.place k)) i in
-    let same = ap₂ verdict_lines c.judgement_in-j.ensures c.run_in-run.ensures in
-    let text = put_both _ (plan_line i) _ c.put_verdict.ensures c.put_numbered.ensures ∙ ap (λ (l : List ℕ). appended c.empty-2.result (plan_line i ++ l)) same in
-    rw enough (put_alone (plan_lines i p) text c.empty-2.ensures room)
+    let same = ap₂ told_lines c.judgement_in.ensures c.run_in.ensures in
+    let text = put_both _ (plan_line i) _ c.put_verdict.ensures c.put_numbered.ensures ∙ ap (λ (l : List ℕ). appended c.new-t.result (plan_line i ++ l)) same in
+    rw enough (put_alone (plan_lines i p) text c.new-t.ensures room)

@@ -1,20 +1,23 @@
 -- `state::leaf_permits` meets its contract: each return by the tests that led there.
-use borrow.Author.Tests.{le-ltb, lt-ltb}
+use mathlib.Core.Path.{sym, ◌∙◌}
+use Rattle.std.proofs.lemmas.Grind.{common_steps}
+use native.Mathlib.Omega.{arith}
+use borrow.Author.Tests.{ltb-true}
+use Rattle.plan.proofs.Runnable.{runnable_of}
 use Rattle.state.specs.State.{leaf_permits}
+use Rattle.state.proofs.leaf_permits.Goals.{then-n-process, else-n-process}
 use Rattle.state.proofs.leaf_permits.Goals as goal
 
-pub returns-then-x-lt3 : goal.returns-then-x-lt3
-unfolding leaf_permits
-returns-then-x-lt3 c =
-    let form_small = rw c.node_at-x.ensures at c.if-x-lt3.true in
-    simp (lt-ltb _ _ form_small, lt-ltb _ _ c.if-n-nodes.true, c.type_permits.ensures, c.leaf_type.ensures)
+pub leaf_type-requires : goal.leaf_type-requires
+leaf_type-requires c = (
+  (runnable_of c.args.process.now.runnable).nodes_hold.keep,
+  elim c.if-n-process.branch [ then-n-process w ↦ w.if-n-process.true | else-n-process w ↦ ltb-true _ _ (sym w.value-is ∙ c.if-process-n-lt3.true) ],
+)
 
-pub returns-then-n-nodes : goal.returns-then-n-nodes
+pub returns-then-process-n-lt3 : goal.returns-then-process-n-lt3
 unfolding leaf_permits
-returns-then-n-nodes c =
-    let form_large = rw c.node_at-x.ensures at c.if-x-lt3.false in
-    simp (le-ltb _ _ form_large, lt-ltb _ _ c.if-n-nodes.true)
+returns-then-process-n-lt3 c = grind (arith, common_steps)
 
-pub returns : goal.returns
+pub returns-else-process-n-lt3 : goal.returns-else-process-n-lt3
 unfolding leaf_permits
-returns c = simp (le-ltb _ _ c.if-n-nodes.false)
+returns-else-process-n-lt3 c = grind (arith, common_steps)

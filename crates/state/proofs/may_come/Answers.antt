@@ -1,31 +1,22 @@
 -- `state::may_come` meets its contract: each return by the test that led there; a bit is read by a shift.
-use borrow.Author.Rules.{rules}
-use mathlib.Core.Path.{◌≡◌, sym, ◌∙◌}
+use mathlib.Core.Path.{sym}
 use native.Mathlib.Omega.{arith}
-use Rattle.state.specs.State.{leaf_permits, may_come}
+use Rattle.std.proofs.lemmas.Grind.{common_steps}
+use Rattle.plan.proofs.Runnable.{runnable_of}
+use Rattle.state.specs.State.{may_come}
 use Rattle.state.proofs.May.{permits_present}
 use Rattle.state.proofs.may_come.Goals as goal
-
-pub told_by-told-requires : goal.told_by-told-requires
-told_by-told-requires c = search rules
 
 pub overflow_shr-result : goal.overflow_shr-result
 overflow_shr-result c =
     let a = c.args in
-    let permitted : c.leaf_permits.result ≡ leaf_permits a.types.now a.nodes.now a.leaf a.outcome = rw (← c.wide-n.ensures) c.leaf_permits.ensures in
-    let e = permits_present a.types.now a.nodes.now a.leaf a.outcome (sym permitted ∙ c.if-leaf_permits.true) in
-    rw c.wide-n.ensures (omega (arith, c.requires.nodes_few))
+    let permitted = rw (c.if-leaf_permits.true, c.from-n.ensures) at c.leaf_permits.ensures in
+    omega (arith, permits_present a.process.now.types.now a.process.now.nodes.now a.leaf a.outcome (sym permitted), (runnable_of a.process.now.runnable).nodes_few, c.from-n.ensures)
 
 pub returns-then-leaf_permits : goal.returns-then-leaf_permits
 unfolding may_come
-returns-then-leaf_permits c =
-    let a = c.args in
-    let permitted : c.leaf_permits.result ≡ leaf_permits a.types.now a.nodes.now a.leaf a.outcome = rw (← c.wide-n.ensures) c.leaf_permits.ensures in
-    rw (sym permitted ∙ c.if-leaf_permits.true, c.told_by-told.ensures, c.wide-n.ensures)
+returns-then-leaf_permits c = grind (arith, common_steps)
 
-pub returns : goal.returns
+pub returns-else-leaf_permits : goal.returns-else-leaf_permits
 unfolding may_come
-returns c =
-    let a = c.args in
-    let permitted : c.leaf_permits.result ≡ leaf_permits a.types.now a.nodes.now a.leaf a.outcome = rw (← c.wide-n.ensures) c.leaf_permits.ensures in
-    rw (sym permitted ∙ c.if-leaf_permits.false)
+returns-else-leaf_permits c = grind (arith, common_steps)

@@ -1,6 +1,5 @@
 -- `state::state_after` meets its contract: what is left of the record from the table so far is what the whole is from the start.
 use mathlib.Core.Path.{◌≡◌}
-use Prim.Native.Nat.{◌-◌, ◌≤◌}
 use lib.ListN.{length}
 use Rattle.state.specs.State.{state_after}
 use Rattle.state.proofs.Replays.{from}
@@ -8,7 +7,5 @@ use Rattle.state.proofs.state_after.Given as goal
 
 abbrev pub invariant-loop-i : goal.invariant-loop-i
 invariant-loop-i l =
-    (l.i ≤ l.taken) × (length l.table ≡ 63) × (state_after l.types l.nodes l.entries l.taken ≡ from l.types l.nodes l.entries l.taken l.table l.i)
-
-abbrev pub decreases-loop-i : goal.decreases-loop-i
-decreases-loop-i l = l.taken - l.i
+    (length l.table ≡ 63)
+    × (state_after l.process.types.now l.process.nodes.now l.entries l.taken ≡ from l.process.types.now l.process.nodes.now l.entries l.taken l.table l.i)

@@ -1,12 +1,9 @@
 -- `state::told_by` meets its contract: the cells of the nodes passed are filled in, each part of a node before it.
-use mathlib.Core.Path.{◌≡◌}
-use Prim.Native.Nat.{◌-◌}
-use mathlib.Core.Bool.{false}
-use Rattle.nodes.specs.Nodes.{count}
 use Rattle.nodes.proofs.Filled.{Filled}
 use Rattle.runs.specs.declared.Ended.TheVariants.{Open}
 use Rattle.runs.specs.declared.Cell.{Cell}
 use Rattle.runs.specs.declared.Cells.{Cells}
+use mathlib.Core.Bool.{false}
 use Rattle.state.specs.State.{leaf_cells, node_cells}
 use Rattle.state.proofs.told_by.Given as goal
 
@@ -18,7 +15,4 @@ abbrev pub blank : Cells
 blank = record { forward = blank_cell; undo = blank_cell; again = blank_cell }
 
 abbrev pub invariant-loop-i : goal.invariant-loop-i
-invariant-loop-i l = (l.n ≡ count l.nodes) × Filled (leaf_cells l.table) (node_cells l.nodes) l.nodes blank 63 l.i l.cells
-
-abbrev pub decreases-loop-i : goal.decreases-loop-i
-decreases-loop-i l = l.n - l.i
+invariant-loop-i l = Filled (leaf_cells l.table) (node_cells l.nodes) l.nodes blank 63 l.i l.cells

@@ -1,8 +1,7 @@
 -- `summary::leaf` meets its contract.
+use Rattle.family.proofs.Words.{none_empty}
 use Rattle.summary.proofs.Leaves.{leaf_summary}
 use Rattle.summary.proofs.leaf.Goals as goal
 
 pub returns : goal.returns
-returns c =
-    let a = c.args in
-    leaf_summary a.set a.finishes a.fails _ _ _ c.only-finished.ensures c.only-failed.ensures c.empty-none.ensures
+returns c = rw c.empty.ensures (leaf_summary c.args.set c.args.finishes c.args.fails _ _ _ c.only-finished.ensures c.only-failed.ensures none_empty)

@@ -1,12 +1,12 @@
--- `sheet::form::form_asked` meets its contract: each return by the tests that led there.
-use mathlib.Core.Path.{sym, ◌∙◌}
+-- `sheet::form::form_asked` meets its contract: a word that is read byte by byte is that word.
+use native.Mathlib.Omega.{arith}
+use borrow.Author.Rules.{rules}
+use Rattle.text.specs.Text.{ascii}
+use Rattle.std.proofs.lemmas.Slice.Eq.{text_from_reads}
 use Rattle.sheet.proofs.form.form_asked.Goals as goal
 
-pub returns-then-is_word : goal.returns-then-is_word
-returns-then-is_word c = rw (sym c.is_word.ensures ∙ c.if-is_word.true)
+pub returns-in-45-2 : goal.returns-in-45-2
+returns-in-45-2 c = let e = text_from_reads c.args.word.now (ascii "--rows") (omega arith) (search rules) in rw e
 
-pub returns-then-is_word-2 : goal.returns-then-is_word-2
-returns-then-is_word-2 c = rw (sym c.is_word.ensures ∙ c.if-is_word.false, sym c.is_word-2.ensures ∙ c.if-is_word-2.true)
-
-pub returns : goal.returns
-returns c = rw (sym c.is_word.ensures ∙ c.if-is_word.false, sym c.is_word-2.ensures ∙ c.if-is_word-2.false)
+pub returns-in-45 : goal.returns-in-45
+returns-in-45 c = let e = text_from_reads c.args.word.now (ascii "--table") (omega arith) (search rules) in rw e

@@ -5,4 +5,4 @@ use native.Mathlib.Omega.{arith}
 use Rattle.sheet.proofs.rows.heading.Goals as goal
 
 pub returns : goal.returns
-returns c = put_alone heading_line c.put.ensures c.empty.ensures (omega arith)
+returns c = put_alone heading_line c.put.ensures c.new-t.ensures (omega arith)

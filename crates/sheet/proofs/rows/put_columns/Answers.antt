@@ -8,4 +8,4 @@ pub returns : goal.returns
 returns c =
     let a = c.args in
     let word = a.word.now in
-    c.push.ensures ∙ rw (c.put_decimal.ensures, c.put.ensures) (put_columns a.t word (decimal a.number))
+    c.push.ensures ∙ rw (c.put_decimal.ensures, c.put.ensures) (put_columns a.t.now word (decimal a.number))

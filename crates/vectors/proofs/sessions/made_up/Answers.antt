@@ -1,11 +1,7 @@
--- `vectors::sessions::made_up` meets its contract: each return by the test that led there.
-use borrow.Author.Tests.{le-leb, lt-leb}
+-- `vectors::sessions::made_up` meets its contract: the steps go to the job made up.
+use borrow.Author.Tests.{le-leb}
 use Rattle.vectors.specs.Runs.{made_up_outcome}
 use Rattle.vectors.proofs.sessions.made_up.Goals as goal
-
-pub returns-then-s-lt-STEPS_AT : goal.returns-then-s-lt-STEPS_AT
-unfolding made_up_outcome
-returns-then-s-lt-STEPS_AT c = rw (lt-leb _ _ c.if-s-lt-STEPS_AT.true)
 
 pub returns : goal.returns
 unfolding made_up_outcome

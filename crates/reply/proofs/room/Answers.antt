@@ -1,8 +1,0 @@
--- `reply::room` meets its contract: so many zeros, by a law of the list and not by counting them.
-use mathlib.Core.Path.{refl, sym}
-use Prim.Native.Nat.{ℕ}
-use lib.ListN.{length-replicate}
-use Rattle.reply.proofs.room.Goals as goal
-
-pub returns : goal.returns
-returns c = record { longest_value = sym (length-replicate {A = ℕ} 65538 0); value = refl }

@@ -1,8 +1,0 @@
--- `run::talk` is safe and ends. The measure is the number of turns that are left; nothing has to hold from turn to turn.
-use Rattle.run.proofs.talk.Given as goal
-
-abbrev pub invariant-loop-turns : goal.invariant-loop-turns
-invariant-loop-turns l = Unit {0}
-
-abbrev pub decreases-loop-turns : goal.decreases-loop-turns
-decreases-loop-turns l = l.turns
