@@ -61,8 +61,9 @@ impl Costs {
     {
         if digit != 0 {
             let at = usize::from(digit - 1);
-            let found = self.by[at];
-            self.by[at] = left.saturating_add(right).min(found);
+            // In 16 bits no sum is too large, which costs less than to stop it at 255.
+            let sum = u16::from(left) + u16::from(right);
+            self.by[at] = sum.min(u16::from(self.by[at])) as u8;
         }
     }
 
