@@ -1,6 +1,6 @@
 -- The lines of a runner's answer: after the start and after each entry taken `next` and the leaves that may come, ascending, each after a
 -- blank, and then `open`, `may end succeeded` or `may end failed`; after a refusal `refused` and its number.
-use Rattle.std.specs.Prelude.{Bool, cond, List, [], ◌∷◌, ◌++◌, ℕ, ◌/◌, ◌%◌, ◌^◌, eqb, Ok, Err}
+use Rattle.std.specs.Prelude.{Bool, cond, List, [], ◌∷◌, ◌++◌, ℕ, ◌/◌, ◌%◌, ◌^◌, eqb, Result, Ok, Err}
 use Rattle.text.specs.Decimal.{decimal}
 use Rattle.text.specs.Lines.{numbered, refused, each}
 use Rattle.text.specs.Text.{ascii}
@@ -8,8 +8,6 @@ use Rattle.job.specs.declared.Status.TheVariants.{Succeeded, Failed}
 use Rattle.job.specs.declared.End.{End}
 use Rattle.job.specs.declared.End.TheVariants.{Open, MayEnd}
 use Rattle.job.specs.declared.Told.{Told}
-use Rattle.job.specs.Job.{Answer}
-use Rattle.job.specs.Numbers.{number}
 
 -- Leaf n may come next where bit n is set in what is told.
 abbrev pub comes_next : ℕ → ℕ → Bool
@@ -29,6 +27,7 @@ end_line (MayEnd Failed) = ascii "may end failed\n"
 unfoldable pub told_lines : Told → List ℕ
 told_lines t = ascii "next" ++ (each (leaf_text t.next) 0 64 ++ (10 ∷ end_line t.end))
 
-abbrev pub answer_lines : Answer → List ℕ
+-- of an answer that has the number in the place of a refusal
+abbrev pub answer_lines : Result Told ℕ → List ℕ
 answer_lines (Ok t) = told_lines t
-answer_lines (Err r) = numbered refused (number r)
+answer_lines (Err n) = numbered refused n

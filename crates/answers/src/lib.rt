@@ -6,7 +6,7 @@ ghost use Rattle.text.specs.Lines.{each};
 ghost use Rattle.text.specs.Text.{appended, text_of};
 ghost use Rattle.answers.specs.Lines.{comes_next, leaf_text, end_line, told_lines, answer_lines};
 
-use job::{Answer, End, Status, Told};
+use job::{End, Status, Told};
 use text::Text;
 
 // Whether the leaf is among those that may come next, whose bits are set in `next`.
@@ -57,15 +57,15 @@ fn put_told(t: &mut Text, told: Told)
     put_end(t, told.end);
 }
 
-// The answer's lines.
+// The lines of an answer that has the number in the place of a refusal: any number.
 #[tactic(auto, using(text::proofs::Texts::appended_empty, text::proofs::Ends::numbered_short, crate::proofs::Texts::told_few))]
-pub fn lines(a: Answer) -> Text
+pub fn lines(a: Result<Told, u8>) -> Text
     ensures { result ≡ text_of (answer_lines a) }
 {
     let mut t = Text::new();
     match a {
         Ok(told) => put_told(&mut t, told),
-        Err(r) => t.put_numbered(b"refused", u64::from(r.number())),
+        Err(number) => t.put_numbered(b"refused", u64::from(number)),
     }
     t
 }

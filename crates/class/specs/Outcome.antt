@@ -59,10 +59,20 @@ pub record Same (a b : Answer) (work work' new new' : List ℕ) : Type 0 where
 abbrev pub OneOutcome : Type 0
 OneOutcome = (s work work' work'' old new new' : List ℕ) (a b : Answer) → Outcome s work work' old new a → Outcome s work work'' old new' b → Same a b work' work'' new new'
 
--- One number for each answer, for callers that have no enum. A count is at most 16; the remainder makes the definition total.
+-- An answer with the number in the place of the refusal.
+abbrev pub told : Answer → Result ℕ ℕ
+told (Ok count) = Ok count
+told (Err r) = Err (number r)
+
+-- One number for each answer, for callers that have no enum. A count is at most 16; the remainder makes the definition total. It is said of any
+-- number in the place of a refusal's,
+abbrev pub code_told : Result ℕ ℕ → ℕ
+code_told (Ok count) = count % 65536
+code_told (Err n) = 131072 + n
+
+-- and so of an answer, whose refusal has its own.
 abbrev pub code_of : Answer → ℕ
-code_of (Ok count) = count % 65536
-code_of (Err r) = 131072 + number r
+code_of a = code_told (told a)
 
 -- The answer to some call.
 pub record IsAnswer (a : Answer) : Type 0 where

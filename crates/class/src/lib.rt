@@ -6,7 +6,7 @@ ghost use Rattle.std.specs.Prelude.{◌≡◌, ◌≤◌, length};
 ghost use Rattle.judge.specs.Verdict.{work_size};
 ghost use Rattle.place.specs.Work.{work_left};
 ghost use Rattle.class.specs.Steps.{Ready, PlacesAfter};
-ghost use Rattle.class.specs.Outcome.{Outcome, number, code_of};
+ghost use Rattle.class.specs.Outcome.{Outcome, number, told, code_told};
 
 use place::PLACE;
 
@@ -34,13 +34,23 @@ impl Refusal {
 // How many places are filled.
 pub type Answer = Result<usize, Refusal>;
 
-// One number for an answer: how many places are filled, or twice 65,536 and the refusal's number.
-pub fn code(a: Answer) -> u32
-    ensures { result ≡ code_of a }
+// An answer with the number in the place of a refusal.
+pub fn told(answer: Answer) -> Result<usize, u8>
+    ensures { result ≡ told answer }
 {
-    match a {
+    match answer {
+        Ok(n) => Ok(n),
+        Err(refusal) => Err(refusal.number()),
+    }
+}
+
+// One number for an answer: how many places are filled, or twice 65,536 and the refusal's number, whatever byte that is.
+pub fn code(answer: Result<usize, u8>) -> u32
+    ensures { result ≡ code_told answer }
+{
+    match answer {
         Ok(n) => (n % 65536) as u32,
-        Err(refusal) => 131072 + u32::from(refusal.number()),
+        Err(number) => 131072 + u32::from(number),
     }
 }
 

@@ -8,7 +8,7 @@ ghost use Rattle.ffi.specs.Export.{Exported, ExportedClass};
 pub extern "C" fn vodjimar_verdict(file: &[u8], work: &mut [u8], record: &mut [u8]) -> u32
     ensures { Exported file.now work.old work.new «record».old «record».new result }
 {
-    judge::code(judge::verdict(file, work, record))
+    judge::code(judge::told(judge::verdict(file, work, record)))
 }
 
 // A whole class: how many places are filled, or twice 65,536 and the number that refuses the call.
@@ -16,5 +16,5 @@ pub extern "C" fn vodjimar_verdict(file: &[u8], work: &mut [u8], record: &mut [u
 pub extern "C" fn vodjimar_class(input: &[u8], work: &mut [u8], answers: &mut [u8]) -> u32
     ensures { ExportedClass input.now work.old work.new answers.old answers.new result }
 {
-    class::code(class::verdicts(input, work, answers))
+    class::code(class::told(class::verdicts(input, work, answers)))
 }

@@ -1,1 +1,2 @@
 pub mod TellsJobs
+pub mod Numbered

@@ -6,7 +6,7 @@
 
 ghost use Rattle.std.specs.Prelude.{◌≡◌, ◌-◌, ◌≤◌, length, take};
 ghost use Rattle.io.specs.Counts.{IsPrefixLen};
-ghost use Rattle.input.specs.Answer.{count_of, OneRead, Fills};
+ghost use Rattle.input.specs.Answer.{answer_of, count_of, OneRead, Fills};
 
 use std::env::{Env, FillError};
 use std::fs::{File, Files};
@@ -29,12 +29,19 @@ impl From<io::Error> for Unread {
     }
 }
 
+// What the answer of one read says of `room` bytes: no more of them than there is room for, and none where it failed.
+fn answered(got: io::Result<usize>, room: usize) -> Result<usize, Unread>
+    ensures { result ≡ answer_of got room }
+{
+    Ok(got?.min(room))
+}
+
 // One read: it gives what has come, as soon as anything has, and nothing where the input has ended.
 pub fn read_some<R: Read>(from: &mut R, buf: &mut [u8]) -> Result<usize, Unread>
     ensures one_read { OneRead (length buf.old) result }
     ensures prefix_len { IsPrefixLen (count_of result) buf.new }
 {
-    Ok(from.read(buf)?)
+    answered(from.read(buf), buf.len())
 }
 
 // One read into the bytes from `done` on. Those before it stay.

@@ -1,4 +1,5 @@
 pub mod Bytes
+pub mod Numbers
 pub mod Tidy
 pub mod Outcomes
 pub mod Areas

@@ -1,6 +1,6 @@
 -- Document 01's number and values for each answer of the runner: "If an answer is an enum, a definition gives this paper's number and
 -- values for each of its cases. The promises use this definition."
-use Rattle.std.specs.Prelude.{◌≡◌, ℕ, Ok, Err}
+use Rattle.std.specs.Prelude.{◌≡◌, ℕ, Result, Ok, Err}
 use Rattle.std.proofs.Math.Option.{Option, none, some}
 use Rattle.plan.specs.Fault as plan
 use Rattle.hours.specs.Fault as hours
@@ -8,6 +8,7 @@ use Rattle.job.specs.Job.{Answer}
 use Rattle.job.specs.declared.Status.TheVariants.{Succeeded, Failed}
 use Rattle.job.specs.declared.End.{End}
 use Rattle.job.specs.declared.End.TheVariants.{Open, MayEnd}
+use Rattle.job.specs.declared.Told.{Told}
 use Rattle.job.specs.declared.Refusal.{Refusal}
 use Rattle.job.specs.declared.Refusal.TheVariants.{Plan, Entry, Hours}
 use Rattle.job.specs.declared.Job.{Job}
@@ -23,6 +24,12 @@ number (Hours f) = hours.number f
 abbrev pub number_of : Answer → Option ℕ
 number_of (Ok t) = none
 number_of (Err r) = some (number r)
+
+-- The answer with that number in the place of the refusal. Each refusal has a number of its own, so it is the same answer, told otherwise:
+-- `one_answer` of proofs/Numbers is the proof.
+abbrev pub numbered : Answer → Result Told ℕ
+numbered (Ok t) = Ok t
+numbered (Err r) = Err (number r)
 
 -- "which leaves may come next, as 63 bits (bit n for node n)"
 abbrev pub next_of : Answer → ℕ

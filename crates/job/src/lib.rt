@@ -5,6 +5,7 @@ ghost use Rattle.std.specs.Prelude.{◌≡◌, ◌≤◌, ◌<◌, length, Ok};
 ghost use Rattle.plan.specs.PlanFile.{most_bytes};
 ghost use Rattle.plan.specs.Reading.{read_of};
 ghost use Rattle.job.specs.Job.{saying, no_job, fresh_job, start_with, start_of, zeros_from, untimed_job};
+ghost use Rattle.job.specs.Numbers.{numbered};
 
 use plan::Layout;
 use runs::Ended;
@@ -135,6 +136,16 @@ impl Refusal {
             Refusal::Entry => 11,
             Refusal::Hours(f) => f.number(),
         }
+    }
+}
+
+// An answer with the number in the place of the refusal: what is written or held against stored bytes is the number alone.
+pub fn numbered(answer: Answer) -> Result<Told, u8>
+    ensures { result ≡ numbered answer }
+{
+    match answer {
+        Ok(told) => Ok(told),
+        Err(refusal) => Err(refusal.number()),
     }
 }
 

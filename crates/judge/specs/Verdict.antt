@@ -83,8 +83,12 @@ set_given (Ok (Violated t)) = t
 set_given (Err r) = 0
 
 -- One number for each answer, for callers that have no enum: 0 consistent, 65,536 and the set, twice 65,536 and the refusal's number. A set
--- is below 1,024; the remainder makes the definition total.
+-- is below 1,024; the remainder makes the definition total. It is said of any number in the place of a refusal's,
+abbrev pub code_told : Result Judgement ℕ → ℕ
+code_told (Ok Consistent) = 0
+code_told (Ok (Violated t)) = 65536 + t % 65536
+code_told (Err n) = 131072 + n
+
+-- and so of an answer, whose refusal has its own.
 abbrev pub code_of : Answer → ℕ
-code_of (Ok Consistent) = 0
-code_of (Ok (Violated t)) = 65536 + t % 65536
-code_of (Err r) = 131072 + number r
+code_of a = code_told (told a)

@@ -3,7 +3,7 @@
 
 ghost use Rattle.std.specs.Prelude.{◌≡◌, ◌*◌, ◌≤◌, length, Ok};
 ghost use Rattle.plan.specs.Reading.{read_of};
-ghost use Rattle.judge.specs.Verdict.{work_size, record_size, number, code_of};
+ghost use Rattle.judge.specs.Verdict.{work_size, record_size, number, told, code_told};
 ghost use Rattle.judge.specs.Shown.{shown_entries};
 ghost use Rattle.judge.specs.Judged.{Judged};
 ghost use Rattle.judge.specs.Inner.{JudgedPlan};
@@ -55,14 +55,24 @@ pub enum Judgement {
 
 pub type Answer = Result<Judgement, Refusal>;
 
-// One number for an answer: 0 consistent, 65,536 and the set, twice 65,536 and the refusal's number.
-pub fn code(a: Answer) -> u32
-    ensures { result ≡ code_of a }
+// An answer with the number in the place of a refusal.
+pub fn told(answer: Answer) -> Result<Judgement, u8>
+    ensures { result ≡ told answer }
 {
-    match a {
+    match answer {
+        Ok(judgement) => Ok(judgement),
+        Err(refusal) => Err(refusal.number()),
+    }
+}
+
+// One number for an answer: 0 consistent, 65,536 and the set, twice 65,536 and the refusal's number, whatever byte that is.
+pub fn code(answer: Result<Judgement, u8>) -> u32
+    ensures { result ≡ code_told answer }
+{
+    match answer {
         Ok(Judgement::Consistent) => 0,
         Ok(Judgement::Violated(set)) => 65536 + (set % 65536) as u32,
-        Err(refusal) => 131072 + u32::from(refusal.number()),
+        Err(number) => 131072 + u32::from(number),
     }
 }
 

@@ -6,11 +6,10 @@ ghost use Rattle.std.specs.Prelude.{◌≡◌, Ok};
 ghost use Rattle.text.specs.Decimal.{decimal};
 ghost use Rattle.text.specs.Lines.{numbered};
 ghost use Rattle.text.specs.Text.{appended, text_of};
-ghost use Rattle.judge.specs.Verdict.{told};
-ghost use Rattle.report.specs.Lines.{run_lines, told_lines, verdict_lines};
+ghost use Rattle.report.specs.Lines.{run_lines, told_lines};
 ghost use Rattle.report.specs.Tells.{Finds, Tells, TellsNamed};
 
-use judge::{Answer, Finding, Judgement};
+use judge::{Finding, Judgement};
 use text::Text;
 
 // Leaf and outcome on a line more.
@@ -52,22 +51,12 @@ pub fn put_verdict(t: &mut Text, answer: Result<Judgement, u8>, run: &[u8; 126])
     }
 }
 
-// An answer with the number in the place of a refusal.
-fn told(answer: Answer) -> Result<Judgement, u8>
-    ensures { result ≡ told answer }
-{
-    match answer {
-        Ok(judgement) => Ok(judgement),
-        Err(refusal) => Err(refusal.number()),
-    }
-}
-
 // The lines of a verdict.
-pub fn lines(answer: Answer, run: [u8; 126]) -> Text
-    ensures { result ≡ text_of (verdict_lines answer run) }
+pub fn lines(answer: Result<Judgement, u8>, run: [u8; 126]) -> Text
+    ensures { result ≡ text_of (told_lines answer run) }
 {
     let mut t = Text::new();
-    put_verdict(&mut t, told(answer), &run);
+    put_verdict(&mut t, answer, &run);
     t
 }
 
@@ -86,7 +75,7 @@ pub fn verdict_lines(file: &[u8]) -> Text
     ensures { Tells file.now result }
 {
     let Finding { judgement, run } = find(file);
-    lines(judgement, run)
+    lines(judge::told(judgement), run)
 }
 
 // A name on a line of its own, and the lines of the verdict on a plan file.
@@ -96,6 +85,6 @@ pub fn named_lines(name: &[u8], file: &[u8]) -> Text
     let Finding { judgement, run } = find(file);
     let mut t = Text::new();
     t.put_line(name);
-    put_verdict(&mut t, told(judgement), &run);
+    put_verdict(&mut t, judge::told(judgement), &run);
     t
 }

@@ -53,7 +53,7 @@ fn talk(rt: &HostRuntime, session: &mut Session) -> Result<(), Failed> {
 // Tells what a start tells, and goes on with the entries unless it is refused.
 fn begin(rt: &HostRuntime, taken: Taken) -> Result<(), Failed> {
     let Taken { answer, job } = taken;
-    output::show(rt, &rt.stderr(), &answers::lines(answer))?;
+    output::show(rt, &rt.stderr(), &answers::lines(job::numbered(answer)))?;
     match answer {
         Ok(_) => talk(rt, &mut Session::new(job)),
         Err(_) => Ok(()),

@@ -11,6 +11,7 @@ use Rattle.session.specs.Session.{answered_to}
 use Rattle.session.specs.Answers.{SaidNoEntry, AnswersEntries}
 use Rattle.session.specs.declared.line.Given.{Given}
 use Rattle.session.specs.declared.line.Given.TheVariants as given
+use Rattle.job.proofs.Numbers.{one_answer}
 use Rattle.session.proofs.Entries.{reads_entries}
 
 other_line : (j : Job) (line : List ℕ) → ((e : Entry) → EntryText e line → ⊥) → ((e : Entry) (m : ℕ) → TimedText e m line → ⊥)
@@ -29,4 +30,5 @@ answers_entries = record {
   timed_entry = λ j t line e m x. rw (reads_entries.each_timed line e m x, t) (refl, refl);
   two = λ j t line e x. rw (reads_entries.each line e x, t) (refl, refl);
   other = other_line;
+  apart = one_answer;
 }

@@ -2,6 +2,8 @@
 -- so once its newline has come, or the end of the input.
 use Rattle.std.specs.Prelude.{true, false, List, ◌≡◌, ℕ}
 use Rattle.job.specs.Job.{take_of}
+use Rattle.job.specs.Job as job
+use Rattle.job.specs.Numbers.{numbered}
 use Rattle.job.specs.Timed.{take_timed_of}
 use Rattle.job.specs.declared.Job.{Job}
 use Rattle.job.specs.declared.Taken.{Taken}
@@ -11,9 +13,9 @@ use Rattle.session.specs.Entries.{EntryText, TimedText}
 use Rattle.session.specs.Session.{Heard, next_line, answered_to}
 use Rattle.session.specs.declared.Say.TheVariants.{NotAnEntry, Answer}
 
--- the runner's answer is said, and the job that it hands back goes on
+-- the runner's answer is said, with the number in the place of a refusal, and the job that it hands back goes on
 abbrev pub Said : Taken → Heard → Type 0
-Said t h = (h.say ≡ Answer t.answer) × (h.session ≡ next_line t.job)
+Said t h = (h.say ≡ Answer (numbered t.answer)) × (h.session ≡ next_line t.job)
 
 -- `not an entry` is said, and the job goes on as it was
 abbrev pub SaidNoEntry : Job → Heard → Type 0
@@ -30,3 +32,5 @@ pub record AnswersEntries : Type 0 where
   -- and any other line is no entry in either
   pub other : (j : Job) (line : List ℕ) → ((e : Entry) → EntryText e line → ⊥) → ((e : Entry) (m : ℕ) → TimedText e m line → ⊥)
       → SaidNoEntry j (answered_to j (entry_in (line_of fresh_line line)))
+  -- what is said with a number in the place of a refusal is said of one answer of the runner alone
+  pub apart : (a b : job.Answer) → numbered a ≡ numbered b → a ≡ b

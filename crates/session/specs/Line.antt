@@ -23,6 +23,10 @@ digit_after (Is n) b =
     (cond (ltb b 48) Wrong (cond (ltb 57 b) Wrong (cond (ltb largest (10 * n + (b - 48))) Wrong (Is (10 * n + (b - 48))))))
 digit_after Wrong b = Wrong
 
+-- The part that a line has come to after n blanks: each blank after the second is one more byte of the minute.
+abbrev pub part_of : ℕ → Part
+part_of n = cond (eqb n 0) Leaf (cond (eqb n 1) Outcome Minute)
+
 -- A line of which no byte has come.
 abbrev pub fresh_line : Line
 fresh_line = record { leaf = Unwritten; outcome = Unwritten; minute = Unwritten; part = Leaf }

@@ -2,6 +2,7 @@
 -- The answer to an entry is the runner's own, and the job that it hands back goes on.
 use Rattle.std.specs.Prelude.{false, cond, List, [], ◌∷◌, ◌++◌, ◌⊎◌, ◌≡◌, ℕ, eqb, Option, Some, None}
 use Rattle.job.specs.Job.{take_of}
+use Rattle.job.specs.Numbers.{numbered}
 use Rattle.job.specs.Timed.{take_timed_of}
 use Rattle.state.specs.declared.Entry.{Entry}
 use Rattle.job.specs.declared.Job.{Job}
@@ -31,9 +32,9 @@ silent s = record { say = Nothing; session = s }
 abbrev pub heard_no_entry : Job → Heard
 heard_no_entry j = record { say = NotAnEntry; session = next_line j }
 
--- The runner has answered: the job that it hands back goes on.
+-- The runner has answered, which is said with the number in the place of a refusal: the job that it hands back goes on.
 abbrev pub heard_answer : Taken → Heard
-heard_answer t = record { say = Answer t.answer; session = next_line t.job }
+heard_answer t = record { say = Answer (numbered t.answer); session = next_line t.job }
 
 -- An entry without a minute goes to an untimed job; in a timed session it is no entry.
 abbrev pub heard_entry : Job → Entry → Heard

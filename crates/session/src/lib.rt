@@ -3,7 +3,7 @@
 
 ghost use Rattle.std.specs.Prelude.{◌≡◌};
 
-use job::{Answer, Job};
+use job::{Job, Told};
 use line::{Given, Line};
 use text::Text;
 
@@ -15,11 +15,12 @@ pub struct Session {
     pub line: Line,
 }
 
+// What is to be said. A runner's answer is said with the number in the place of a refusal.
 #[derive(Drop)]
 pub enum Say {
     Nothing,
     NotAnEntry,
-    Answer(Answer),
+    Answer(Result<Told, u8>),
 }
 
 impl Session {
@@ -50,7 +51,7 @@ impl Session {
             _ => return Say::NotAnEntry,
         };
         self.job = taken.job;
-        Say::Answer(taken.answer)
+        Say::Answer(job::numbered(taken.answer))
     }
 
     // One byte of input.

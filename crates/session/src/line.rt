@@ -19,6 +19,22 @@ pub enum Part {
     Minute,
 }
 
+// By the number of blanks that have parted the line: 0 for the leaf, 1 for the outcome, and any other for the minute, of which a blank is one more
+// byte. So every byte is the number of a part.
+impl From<u8> for Part {
+    ghost use Rattle.session.specs.Line.{part_of};
+
+    ghost from_gives = { λ n p. p ≡ part_of n };
+
+    fn from(n: u8) -> Part {
+        match n {
+            0 => Part::Leaf,
+            1 => Part::Outcome,
+            _ => Part::Minute,
+        }
+    }
+}
+
 // A line as far as its bytes have come: its numbers, and the part that it has come to.
 #[derive(Clone, Copy, Debug, PartialEq, Eq)]
 pub struct Line {

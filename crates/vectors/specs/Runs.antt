@@ -5,6 +5,7 @@ use Rattle.blocks.specs.Block.{le16}
 use Rattle.plan.specs.PlanFile.{most_bytes}
 use Rattle.state.specs.declared.Entry.{Entry}
 use Rattle.job.specs.Job.{most_windows, start_of, take_of}
+use Rattle.job.specs.Numbers.{numbered}
 use Rattle.job.specs.Timed.{start_timed_of, take_timed_of}
 use Rattle.job.specs.declared.Job.{Job}
 use Rattle.job.specs.declared.Taken.{Taken}
@@ -18,7 +19,7 @@ use Rattle.vectors.specs.declared.outcome.Outcome.TheVariants.{Damaged}
 -- The runner, asked for the entry e of the job j, has answered as the bytes at `at` say, and handed back the job that they leave: where e was taken,
 -- with the minute m.
 unfoldable pub agrees_at : Taken → Job → Entry → ℕ → List ℕ → ℕ → Bool
-agrees_at t j e m s at = is_answer t.answer s at && same_job (left_by (get_or s at 0) j e m) t.job
+agrees_at t j e m s at = is_answer (numbered t.answer) s at && same_job (left_by (get_or s at 0) j e m) t.job
 
 -- The job that goes on, where they have.
 abbrev pub stepped_to : Taken → Job → Entry → ℕ → List ℕ → ℕ → Option Job
@@ -53,7 +54,7 @@ steps_outcome j s at before =
 
 -- A start whose answer stands at `at`, and steps after it.
 unfoldable pub started_with : Taken → List ℕ → ℕ → Outcome
-started_with t s at = cond (is_answer t.answer s at) (steps_outcome t.job s (at + 10) 1) (held_against 1 0)
+started_with t s at = cond (is_answer (numbered t.answer) s at) (steps_outcome t.job s (at + 10) 1) (held_against 1 0)
 
 -- A session: the length of the plan file at 1, the file at 3, the answer to its start, and steps.
 abbrev pub plan_end : List ℕ → ℕ

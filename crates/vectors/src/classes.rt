@@ -20,7 +20,7 @@ fn code_in(short: u8, input: &[u8], work: &mut [u8], answers: &mut [u8]) -> u64
     ensures answers_after { answers.new ≡ area_of (call_of input.now (length work.old - short % 2) (length answers.old)) answers.old }
 {
     let w = work.len() - usize::from(short % 2);
-    u64::from(class::code(class::verdicts(input, &mut work[..w], answers)))
+    u64::from(class::code(class::told(class::verdicts(input, &mut work[..w], answers))))
 }
 
 // What a whole body comes to, with the first `n` bytes of `answers` as answer area.

@@ -19,7 +19,9 @@ fn step_to(taken: Taken, job: Job, e: Entry, minute: u32, s: &[u8], at: usize) -
     requires { at + 10 ≤ length s.now }
     ensures { result ≡ stepped_to taken job e minute s.now at }
 {
-    if is_answer(taken.answer, s, at) && left_by(s[at], job, e, minute) == taken.job {
+    if is_answer(job::numbered(taken.answer), s, at)
+        && left_by(s[at], job, e, minute) == taken.job
+    {
         Some(taken.job)
     } else {
         None
@@ -78,7 +80,7 @@ fn started(taken: Taken, s: &[u8], at: usize) -> Outcome
     requires { at + 10 ≤ length s.now }
     ensures { result ≡ started_with taken s.now at }
 {
-    if !is_answer(taken.answer, s, at) {
+    if !is_answer(job::numbered(taken.answer), s, at) {
         return held(1, 0);
     }
     continued(taken.job, s, at + 10, 1)

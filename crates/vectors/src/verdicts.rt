@@ -17,7 +17,7 @@ fn code_in(short: u8, file: &[u8], work: &mut [u8], record: &mut [u8]) -> u64
 {
     let w = work.len() - usize::from(short % 2);
     let r = record.len() - usize::from(short / 2 % 2);
-    u64::from(judge::code(judge::verdict(file, &mut work[..w], &mut record[..r])))
+    u64::from(judge::code(judge::told(judge::verdict(file, &mut work[..w], &mut record[..r]))))
 }
 
 pub fn compare(body: &[u8]) -> Outcome

@@ -6,4 +6,4 @@ use Rattle.answers.proofs.lines.Goals as goal
 
 pub returns-in-Err : goal.returns-in-Err
 returns-in-Err c =
-    rw (c.in-Err.is, sym c.number.ensures, sym c.from.ensures) (put_alone _ c.put_numbered.ensures c.new-t.ensures (omega (arith, numbered_short refused c.from.result (omega arith))))
+    rw (c.in-Err.is, sym c.from.ensures) (put_alone _ c.put_numbered.ensures c.new-t.ensures (omega (arith, numbered_short refused c.from.result (omega arith))))
