@@ -5,7 +5,7 @@ use mathlib.Core.Bool.{Bool, true, false, true≢false, ◌&&◌, cond}
 use mathlib.Core.Logic.{◌⊎◌, inl, inr}
 use Prim.Native.Nat.{ℕ, zero, suc, ◌+◌, ◌≤◌, ◌<◌}
 use native.Mathlib.Numerals.{add-one}
-use native.Mathlib.Nat.{not-suc-le-zero}
+use native.Mathlib.Nat.{add-zero, add-suc, not-suc-le-zero}
 use native.Mathlib.Omega.{arith}
 use lib.Dec.{eqb}
 use borrow.Author.Tests.{eqb-true, eqb-false}
@@ -128,6 +128,12 @@ module _ (g : ℕ → ℕ) where
   total_none zero h = refl
   total_none (suc n) h = omega (arith, h n (omega arith), total_none n (λ i l. h i (omega arith)))
 
+  -- a sum has the terms before a, and those from a on
+  pub total_split : (a k : ℕ) → total (a + k) g ≡ total a g + total k (λ i. g (a + i))
+  unfolding total
+  total_split a zero = rw (add-zero a) (omega arith)
+  total_split a (suc k) = rw (add-suc a k) (omega (arith, total_split a k))
+
 -- two sums whose terms are the same
 pub total_same : (g h : ℕ → ℕ) (n : ℕ) → ((i : ℕ) → i < n → g i ≡ h i) → total n g ≡ total n h
 unfolding total
@@ -174,3 +180,9 @@ one_holds false h = absurd (omega arith)
 pub one_most : (t : Bool) → one t ≤ 1
 one_most true = omega arith
 one_most false = omega arith
+
+-- no more are counted than are tried
+pub count_most : (p : ℕ → Bool) (n : ℕ) → total n (λ i. one (p i)) ≤ n
+unfolding total
+count_most p zero = omega arith
+count_most p (suc n) = omega (arith, one_most (p n), count_most p n)

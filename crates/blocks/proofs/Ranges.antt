@@ -3,7 +3,7 @@
 use mathlib.Core.Path.{◌≡◌, refl, sym, ap, ◌∙◌}
 use mathlib.Core.Bool.{Bool, true, false, cond, not, ◌&&◌, ◌||◌}
 use mathlib.Core.List.{List, [], ◌∷◌, map}
-use Prim.Native.Nat.{ℕ, zero, suc, ◌+◌, ◌≤◌, ◌<◌}
+use Prim.Native.Nat.{ℕ, zero, suc, ◌+◌, ◌-◌, ◌≤◌, ◌<◌}
 use native.Mathlib.Nat.{add-zero}
 use native.Mathlib.Omega.{arith}
 use lib.ListN.{length, get_or}
@@ -27,6 +27,7 @@ use Rattle.std.proofs.lemmas.Iterator.Consumers.{YieldsList-from_filter, count_f
 use Rattle.std.proofs.lemmas.Iterator.Search.{all_from_yields_List, any_from_yields_List}
 use Rattle.std.proofs.lemmas.List.FromFn.{length-range_with_len, get_or-range_with_len}
 use Rattle.blocks.specs.Bounded.{every, total, one}
+use Rattle.blocks.proofs.Bounded.{total_split}
 
 -- tests that agree on every number agree
 pub every_same : (n : ℕ) (p q : ℕ → Bool) → ((i : ℕ) → p i ≡ q i) → every n p ≡ every n q
@@ -107,10 +108,12 @@ fold-range (suc n) a k g =
     let first = rw (ap g (add-zero a)) at (total_from_first n (λ i. g (a + i))) in
     omega (arith, rest, same, first)
 
-sum-range : (n : ℕ) (g : ℕ → ℕ) → sum (map g (range_with_len 0 n)) ≡ total n g
-sum-range n g = omega (arith, fold-range n 0 0 g, sums_same n (λ i. g (0 + i)) g (λ i. ap g (omega arith)))
+sum-range : (a n : ℕ) (g : ℕ → ℕ) → a ≤ n → total a g + sum (map g (range_with_len a (n - a))) ≡ total n g
+sum-range a n g l =
+    let e : a + (n - a) ≡ n = omega arith in
+    omega (arith, fold-range (n - a) a 0 g, rw e at (total_split g a (n - a)))
 
--- The chains. Each lemma takes the call's clause `ran`, that the source is `0..n`, and that the closure tells p, or g, of each number.
+-- The chains. Each lemma takes the call's clause `ran`, that the source is `0..n`, or `a..n`, and that the closure tells p, or g, of each number.
 -- `(0..n).all(p)`
 pub every_from_all : {F : Type 0} {g : Mut F (ℕ × Unit {0}) Bool} {s : Range ℕ} (p : ℕ → Bool) (n : ℕ) (u : Range ℕ) (f : F) (r : Bool)
     → ((xs : List ℕ) × (o : Option ℕ) × (j : F) × YieldsThen nat_range_steps s xs o u × FoldsTo (λ p x q. Called g p (x, tt) true q) f xs j × MatchOption o (r ≡ true) (λ x. (r ≡ false) × ((h : F) × Called g j (x, tt) false h)))
@@ -147,6 +150,23 @@ total_from_count {g = g} {s = s} p n f r ran is callee tells =
     count_from_yields_List s r ran (YieldsList-from_filter g p (YieldsList-from_range 0 n n is (omega arith)) callee tells)
     ∙ length-filter-range n 0 p ∙ sums_same n (λ i. one (p (0 + i))) (λ i. one (p i)) (λ i. ap (λ k. one (p k)) (omega arith))
 
+-- `(a..n).map(h).sum()` is what `total n h` has besides the terms before a, and it fits
+module _ {F : Type 0} {g : Mut F (ℕ × Unit {0}) ℕ} {s : Map (Range ℕ) F} (h : ℕ → ℕ) (a n : ℕ) (f : F) (l : a ≤ n) where
+  pub rest_from_sum : (r : ℕ)
+      → ((xs : List ℕ) × (⊤ → Drains (maps nat_range_steps g) s xs) × (r ≡ fold (λ b x. b + x) 0 xs))
+      → map_source s ≡ record { start = a; end = n } → map_callee s ≡ f
+      → ((x : ℕ) (r : ℕ) (q : F) → Called g f (x, tt) r q → (q ≡ f) × (r ≡ h x))
+      → total a h + r ≡ total n h
+  rest_from_sum r ran is callee tells =
+      omega (arith, sum_from_yields_List s r ran (YieldsList-from_map g h (YieldsList-from_range a n (n - a) is refl) callee tells), sum-range a n h l)
+
+  pub fits_from_rest : (top : ℕ) → total n h < top
+      → map_source s ≡ record { start = a; end = n } → map_callee s ≡ f
+      → ((x : ℕ) (r : ℕ) (q : F) → Called g f (x, tt) r q → (q ≡ f) × (r ≡ h x))
+      → EachRunFrom (maps nat_range_steps g) s (λ p. fold (λ b x. b + x) 0 p.items < top)
+  fits_from_rest top fits is callee tells =
+      fits_from_yields_list s top (YieldsList-from_map g h (YieldsList-from_range a n (n - a) is refl) callee tells) (omega (arith, sum-range a n h l))
+
 -- `(0..n).map(h).sum()`, and that it fits
 module _ {F : Type 0} {g : Mut F (ℕ × Unit {0}) ℕ} {s : Map (Range ℕ) F} (h : ℕ → ℕ) (n : ℕ) (f : F) where
   pub total_from_sum : (r : ℕ)
@@ -154,15 +174,14 @@ module _ {F : Type 0} {g : Mut F (ℕ × Unit {0}) ℕ} {s : Map (Range ℕ) F} 
       → map_source s ≡ record { start = 0; end = n } → map_callee s ≡ f
       → ((x : ℕ) (r : ℕ) (q : F) → Called g f (x, tt) r q → (q ≡ f) × (r ≡ h x))
       → r ≡ total n h
-  total_from_sum r ran is callee tells =
-      sum_from_yields_List s r ran (YieldsList-from_map g h (YieldsList-from_range 0 n n is (omega arith)) callee tells) ∙ sum-range n h
+  unfolding total
+  total_from_sum r ran is callee tells = omega (arith, rest_from_sum h 0 n f (omega arith) r ran is callee tells)
 
   pub fits_from_total : (top : ℕ) → total n h < top
       → map_source s ≡ record { start = 0; end = n } → map_callee s ≡ f
       → ((x : ℕ) (r : ℕ) (q : F) → Called g f (x, tt) r q → (q ≡ f) × (r ≡ h x))
       → EachRunFrom (maps nat_range_steps g) s (λ p. fold (λ a x. a + x) 0 p.items < top)
-  fits_from_total top fits is callee tells =
-      fits_from_yields_list s top (YieldsList-from_map g h (YieldsList-from_range 0 n n is (omega arith)) callee tells) (omega (arith, sum-range n h))
+  fits_from_total = fits_from_rest h 0 n f (omega arith)
 
 -- `(0..n).find(p)` and `(0..n).position(p)`
 pub first_from_find : {F : Type 0} {g : Mut F (Bor ℕ × Unit {0}) Bool} {s : Range ℕ} (p : ℕ → Bool) (n : ℕ) (u : Range ℕ) (f : F) (r : Option ℕ)

@@ -40,7 +40,9 @@ fn apart_from_all(b: &[u8], i: usize) -> bool
 fn pairs_of(b: &[u8], action: u8) -> usize
     ensures { result ≡ pairs_of b.now action }
 {
-    (0..b.len() / 2).filter(|&i| b[2 * i] == action).count()
+    (0..b.len() / 2)
+        .map(|i| usize::from(b[2 * i] == action))
+        .sum()
 }
 
 fn pair_ok(b: &[u8], actions: usize, i: usize) -> bool

@@ -8,8 +8,8 @@ use native.Mathlib.Omega.{arith}
 use lib.Dec.{leb, eqb}
 use borrow.Author.Tests.{leb-true, leb-false, le-leb, lt-leb, eqb-true, eqb-false, eq-eqb, ne_eqb}
 use Rattle.blocks.specs.Bounded.{total, one}
-use Rattle.blocks.proofs.Bounded.{one_most, decide, every_at, every_all, total_has, total_two, total_some, total_single}
-use Rattle.nodes.specs.Nodes.{count, form, left, right, Side, on_left, on_right, child, Names, NamedOnce, EachNamedOnce}
+use Rattle.blocks.proofs.Bounded.{one_most, decide, every_at, every_all, total_has, total_two, total_some, total_none, total_single}
+use Rattle.nodes.specs.Nodes.{count, form, left, right, Side, on_left, on_right, child, Names, NamedOnce, EachNamedOnce, Descending}
 use Rattle.nodes.specs.NodeTests.{naming, times_named, named_ok}
 
 pub left_not_right : on_left ≡ on_right → ⊥
@@ -31,6 +31,23 @@ named_most b j = upto (count b)
     upto : (n : ℕ) → total n (λ i. naming j (form b i) (left b i) (right b i)) ≤ 2 * n
     upto zero = omega arith
     upto (suc n) = omega (arith, naming_most j (form b n) (left b n) (right b n), upto n)
+
+-- a node whose parts have smaller numbers than j does not name j
+naming_below : (j f l r : ℕ) → (3 ≤ f → (l < j) × (r < j)) → naming j f l r ≡ 0
+naming_below j f l r below = go (leb 3 f) refl
+  where
+    go : (t : Bool) → leb 3 f ≡ t → cond t (one (eqb l j) + one (eqb r j)) 0 ≡ 0
+    go true e =
+        let (p, q) = below (leb-true 3 f e) in
+        simp (ne_eqb l j (λ z. omega arith), ne_eqb r j (λ z. omega arith))
+    go false e = refl
+
+-- so where parts have smaller numbers, no node up to j names it
+pub none_upto : (b : List ℕ) (j : ℕ) → j < count b → Descending b → total (j + 1) (λ i. naming j (form b i) (left b i) (right b i)) ≡ 0
+none_upto b j l down =
+    total_none _ (j + 1) (λ i k. naming_below j (form b i) (left b i) (right b i) (λ f.
+    let (p, q) = down i (omega arith) f in
+    (omega arith, omega arith)))
 
 module _ (b : List ℕ) (j : ℕ) where
   -- how often node i names j

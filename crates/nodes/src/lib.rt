@@ -78,15 +78,19 @@ fn naming_of(j: usize, x: Node) -> usize
     usize::from(x.left == j) + usize::from(x.right == j)
 }
 
-// How often node `j` is named.
+// How often node `j` is named: by the nodes after it, since a node that has passed the first check names smaller numbers alone.
 fn times_named(b: &[u8], j: usize) -> usize
+    requires { (j < count b.now) × Descending b.now }
     ensures { result ≡ times_named b.now j }
 {
-    (0..b.len() / 3).map(|i| naming_of(j, node_at(b, i))).sum()
+    (j + 1..b.len() / 3)
+        .map(|i| naming_of(j, node_at(b, i)))
+        .sum()
 }
 
 // Whether each node but the last is named exactly once.
 fn named_ok(b: &[u8]) -> bool
+    requires { Descending b.now }
     ensures { result ≡ named_ok b.now }
 {
     (0..(b.len() / 3).saturating_sub(1)).all(|j| times_named(b, j) == 1)

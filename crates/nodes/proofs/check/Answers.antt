@@ -3,5 +3,8 @@ use Rattle.std.proofs.Common.{sym, ◌∙◌}
 use Rattle.nodes.proofs.Forms.{descending}
 use Rattle.nodes.proofs.check.Goals as goal
 
+pub named_ok-requires : goal.named_ok-requires
+named_ok-requires c = descending _ _ (sym c.forms_ok.ensures ∙ c.if-not-forms_ok.false)
+
 pub nested_ok-requires : goal.nested_ok-requires
-nested_ok-requires c = (c.requires, descending c.args.actions c.args.b.now (sym c.forms_ok.ensures ∙ c.if-not-forms_ok.false))
+nested_ok-requires c = (c.requires, descending _ _ (sym c.forms_ok.ensures ∙ c.if-not-forms_ok.false))
